@@ -1,10 +1,10 @@
 -- Rows at places, and null maps made of what was found.
-use Rattle.std.proofs.Common.{◌≡◌, ◌∙◌, ℕ, zero, suc, ◌+◌, ◌<◌, ◌≤◌, Bool, true, cond, List, [], ◌∷◌, ◌++◌, refl, sym, ap, arith}
+use Rattle.std.proofs.Common.{◌≡◌, ◌∙◌, ℕ, ◌+◌, ◌<◌, ◌≤◌, Bool, true, cond, List, [], ◌∷◌, ◌++◌, refl, sym, ap, arith}
 use Rattle.std.proofs.Common.{length, get_or, take, drop, Vec, Global}
 use Rattle.std.proofs.Math.ListN.{set}
 use Rattle.std.specs.Prelude.{◌↔◌, IsTrue, Option, Some, None, map}
 use Rattle.std.specs.FinMap as finite
-use Rattle.std.proofs.lemmas.List.{drop_more, take_more, take_all}
+use Rattle.std.proofs.lemmas.List.{drop_more, get_or-map, map-set, take_more, take_all}
 use Rattle.dx_ports.specs.Members.{Each}
 use Rattle.dx_ports.proofs.Members.{in_at}
 use Rattle.dx_ports.proofs.Lists.{drop_past}
@@ -69,21 +69,12 @@ made_more I found i b old new v h e d w m n =
 abbrev pub seen : List (Vec Bool Global) → List (List Bool)
 seen ts = map (λ (v : Vec Bool Global). v.items) ts
 
-item_seen : (ts : List (Vec Bool Global)) (t : ℕ) (w : Vec Bool Global) → t < length ts → w ≡ get_or ts t w
-    → get_or (seen ts) t [] ≡ w.items
-item_seen [] t w h e = absurd (omega arith)
-item_seen (v ∷ ts) zero w h e = ap (λ (v : Vec Bool Global). v.items) (sym e)
-item_seen (v ∷ ts) (suc t) w h e = item_seen ts t w (omega arith) e
-
-set_seen : (ts : List (Vec Bool Global)) (t : ℕ) (x : Vec Bool Global) → seen (set ts t x) ≡ set (seen ts) t x.items
-set_seen [] t x = refl
-set_seen (v ∷ ts) zero x = refl
-set_seen (v ∷ ts) (suc t) x = ap (λ l. v.items ∷ l) (set_seen ts t x)
-
 pub marked_seen : (ts : List (Vec Bool Global)) (t p : ℕ) (w x : Vec Bool Global) → t < length ts → w ≡ get_or ts t w
     → x.items ≡ set w.items p true → seen (set ts t x) ≡ marked (seen ts) t p
 marked_seen ts t p w x h e d =
-    set_seen ts t x ∙ ap (set (seen ts) t) (d ∙ ap (λ l. set l p true) (sym (item_seen ts t w h e)))
+    let items = λ (v : Vec Bool Global). v.items in
+    let row : get_or (seen ts) t [] ≡ w.items = get_or-map items ts t w [] h ∙ ap items (sym e) in
+    map-set items ts t x ∙ ap (set (seen ts) t) (d ∙ ap (λ l. set l p true) (sym row))
 
 -- ---- the first and the last of a null map that is made
 

@@ -24,6 +24,19 @@ pub record IsNullCell (T : List TableRows) (b : Found) : Type 0 where
   pub place : b.place < length (rows_of T b.table)
   pub column : b.column < (table_at T b.table).width
 
+-- the instance has a cell in column c of the row at a place
+pub record IsCellAt (T : List TableRows) (t p c : ℕ) : Type 0 where
+  pub table : t < length T
+  pub place : p < length (rows_of T t)
+  pub column : c < (table_at T t).width
+
+-- the instance has a row at a place, and it and this row are as wide as the table
+pub record FitsRowAt (T : List TableRows) (row : List Value) (t p : ℕ) : Type 0 where
+  pub table : t < length T
+  pub place : p < length (rows_of T t)
+  pub width : length row ≡ (table_at T t).width
+  pub wide : length (row_at T t p) ≡ (table_at T t).width
+
 -- the list has at most n different members
 abbrev pub AtMost : {X : Type 0} → List X → ℕ → Type 0
 AtMost {X} xs n = (ds : List X) → Distinct ds → ds ⊆ xs → length ds ≤ n

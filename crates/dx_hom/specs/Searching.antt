@@ -7,12 +7,20 @@ use Rattle.dx_model.specs.declared.values.Value.{Value}
 use Rattle.dx_model.specs.declared.facts.Fact.{Fact}
 use Rattle.dx_model.specs.Instances.{fact_moved, moved, values, nulls_in}
 use Rattle.dx_instance.specs.NullMaps.{ByNull}
-use Rattle.dx_instance.specs.Stored.{TableRows, rows_of, table_at}
+use Rattle.dx_instance.specs.Stored.{HasTableIn, TableRows, rows_of, table_at}
 use Rattle.dx_instance.specs.Places.{fact_at}
 use Rattle.dx_hom.specs.declared.matching.Found.{Found}
 use Rattle.dx_hom.specs.View.{gone_at}
 use Rattle.dx_hom.specs.Bound.{BindingState}
-use Rattle.dx_hom.specs.Narrowing.{found_nulls, null_value, IsGood, ExtendsPartialMap, Narrows}
+use Rattle.dx_hom.specs.Narrowing.{AtMost, found_nulls, null_value, IsGood, ExtendsPartialMap, Narrows}
+use Rattle.dx_hom.specs.Room.{Room}
+
+-- the facts fit the instance, there is room for them and their nulls, and no other null has a fixed value
+pub record IsReadyFor (T : List TableRows) (fixed : ByNull) (F : List Fact) (room : Room) : Type 0 where
+  pub fits : (f : Fact) → f ∈ F → HasTableIn T f
+  pub facts : length F ≤ room.facts
+  pub nulls : AtMost (nulls_in (values F)) room.nulls
+  pub fixed_nulls : (n : NullId) (x : Value) → finite.get fixed n ≡ Some x → n ∈ nulls_in (values F)
 
 -- a fact of the instance that is not taken out and not to be avoided
 pub record IsOpen (T : List TableRows) (gone : List (List Bool)) (avoid : Option Fact) (t p : ℕ) : Type 0 where

@@ -1,18 +1,15 @@
 // Searches in reserved room.
-ghost use Rattle.std.specs.Prelude.{◌≡◌, ◌↔◌, ◌≤◌, [], IfOk, IsTrue, Some, length};
+ghost use Rattle.std.specs.Prelude.{◌≡◌, ◌↔◌, [], IfOk, IsTrue};
 ghost use Rattle.std.specs.Bool.{OnTrue};
-ghost use Rattle.std.specs.FinMap as finite;
 ghost use Rattle.std.specs.Option.{option_copied};
-ghost use Rattle.dx_ports.specs.Members.{◌∈◌, Each};
-ghost use Rattle.dx_model.specs.Instances.{given, values, nulls_in};
-ghost use Rattle.dx_model.specs.declared.facts.Fact.{Fact as FactRow};
+ghost use Rattle.dx_ports.specs.Members.{Each};
+ghost use Rattle.dx_model.specs.Instances.{given};
 ghost use Rattle.dx_model.specs.declared.values.NullId.{NullId as Id};
-ghost use Rattle.dx_model.specs.declared.values.Value.{Value as AnyValue};
 ghost use Rattle.dx_instance.specs.NullMaps.{pairs_of};
-ghost use Rattle.dx_instance.specs.Stored.{facts, HasTableIn};
+ghost use Rattle.dx_instance.specs.Stored.{facts};
 ghost use Rattle.dx_hom.specs.Homs.{IsNullAssignment, IsThere, found_pairs};
-ghost use Rattle.dx_hom.specs.Narrowing.{AtMost, IsNullCell};
-ghost use Rattle.dx_hom.specs.Searching.{FindsAll, Reaches};
+ghost use Rattle.dx_hom.specs.Narrowing.{IsNullCell};
+ghost use Rattle.dx_hom.specs.Searching.{FindsAll, IsReadyFor, Reaches};
 
 use crate::bindings::Bindings;
 use crate::goal::Goal;
@@ -76,10 +73,7 @@ impl Search {
         fixed: &NullMap,
         avoid: Option<&Fact>,
     ) -> bool
-        requires fits { (f : FactRow) → f ∈ from.now → HasTableIn into.now f }
-        requires facts { length from.now ≤ self.old.facts }
-        requires nulls { AtMost (nulls_in (values from.now)) self.old.nulls }
-        requires fixed { (n : Id) (x : AnyValue) → finite.get fixed.now n ≡ Some x → n ∈ nulls_in (values from.now) }
+        requires { IsReadyFor into.now fixed.now from.now self.old }
         ensures facts { self.new.facts ≡ self.old.facts }
         ensures nulls { self.new.nulls ≡ self.old.nulls }
         ensures exact { IsTrue result ↔ IsThere fixed.now (option_copied avoid.entry) from.now (facts into.now) }
@@ -103,10 +97,7 @@ impl Search {
         fixed: &NullMap,
         avoid: Option<&Fact>,
     ) -> bool
-        requires fits { (f : FactRow) → f ∈ from.now → HasTableIn into.now f }
-        requires facts { length from.now ≤ self.old.facts }
-        requires nulls { AtMost (nulls_in (values from.now)) self.old.nulls }
-        requires fixed { (n : Id) (x : AnyValue) → finite.get fixed.now n ≡ Some x → n ∈ nulls_in (values from.now) }
+        requires { IsReadyFor into.now fixed.now from.now self.old }
         ensures facts { self.new.facts ≡ self.old.facts }
         ensures nulls { self.new.nulls ≡ self.old.nulls }
         ensures exact { IsTrue result ↔ Reaches into.now gone.now fixed.now (option_copied avoid.entry) from.now }

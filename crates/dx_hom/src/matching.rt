@@ -1,9 +1,7 @@
 // Cells that hold the values of nulls.
-ghost use Rattle.std.specs.Prelude.{◌≡◌, ◌↔◌, ◌<◌, ◌^◌, [], ◌∷◌, IsTrue, length};
+ghost use Rattle.std.specs.Prelude.{◌≡◌, ◌↔◌, [], ◌∷◌, IsTrue};
 ghost use Rattle.dx_model.specs.Instances.{nulls_in};
-ghost use Rattle.dx_instance.specs.Places.{row_at};
-ghost use Rattle.dx_instance.specs.Stored.{rows_of, table_at};
-ghost use Rattle.dx_hom.specs.Narrowing.{Allows, HasRoomForNulls, IsNullCell, IsGood, MeetsNull, MeetsRow, MeetsValue};
+ghost use Rattle.dx_hom.specs.Narrowing.{Allows, HasRoomForNulls, IsCellAt, IsGood, FitsRowAt, IsNullCell, MeetsNull, MeetsRow, MeetsValue};
 
 use crate::bindings::Bindings;
 use crate::goal::Goal;
@@ -64,9 +62,7 @@ pub(crate) fn meet_value(
     spot: Spot,
     column: u32,
 ) -> bool
-    requires table { spot.table < length goal.now.into.now }
-    requires place { spot.place < length (rows_of goal.now.into.now spot.table) }
-    requires column { column < (table_at goal.now.into.now spot.table).width }
+    requires cell { IsCellAt goal.now.into.now spot.table spot.place column }
     requires good { IsGood goal.now.into.now goal.now.fixed.now found.old.cells }
     requires room { HasRoomForNulls found.old (nulls_in (value.now ∷ [])) }
     ensures room { found.new.room ≡ found.old.room }
@@ -90,10 +86,7 @@ pub(crate) fn meet_value(
 
 /// Gives the row the values of the row at a place, if it can have them.
 pub(crate) fn meet_row(found: &mut Bindings, goal: &Goal<'_>, row: &[Value], spot: Spot) -> bool
-    requires table { spot.table < length goal.now.into.now }
-    requires place { spot.place < length (rows_of goal.now.into.now spot.table) }
-    requires width { length row.now ≡ (table_at goal.now.into.now spot.table).width }
-    requires wide { length (row_at goal.now.into.now spot.table spot.place) ≡ (table_at goal.now.into.now spot.table).width }
+    requires row { FitsRowAt goal.now.into.now row.now spot.table spot.place }
     requires good { IsGood goal.now.into.now goal.now.fixed.now found.old.cells }
     requires room { HasRoomForNulls found.old (nulls_in row.now) }
     ensures room { found.new.room ≡ found.old.room }

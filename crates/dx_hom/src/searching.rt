@@ -8,6 +8,7 @@ ghost use Rattle.dx_instance.specs.Places.{row_at, fact_at};
 ghost use Rattle.dx_instance.specs.Stored.{rows_of, HasTableIn};
 ghost use Rattle.dx_hom.specs.Narrowing.{AtMost, HasRoomForNulls, IsNullCell, IsGood};
 ghost use Rattle.dx_hom.specs.Orders.{IsOrder, IsReordered};
+ghost use Rattle.dx_hom.specs.Room.{HasRoomForSteps};
 ghost use Rattle.dx_hom.specs.Searching.{IsNextMove, IsOpen, IsSearched};
 
 use crate::bindings::Bindings;
@@ -186,8 +187,7 @@ pub(crate) fn search(
 ) -> bool
     requires fits { (f : FactRow) → f ∈ from.now → HasTableIn goal.now.into.now f }
     requires found_room { AtMost (nulls_in (values from.now)) found.old.room }
-    requires steps_room { length from.now ≤ vec_capacity stack.old.steps }
-    requires order_room { length from.now ≤ vec_capacity stack.old.order }
+    requires steps_room { HasRoomForSteps stack.old (length from.now) }
     ensures found_room { found.new.room ≡ found.old.room }
     ensures steps_capacity { vec_capacity stack.new.steps ≡ vec_capacity stack.old.steps }
     ensures order_capacity { vec_capacity stack.new.order ≡ vec_capacity stack.old.order }

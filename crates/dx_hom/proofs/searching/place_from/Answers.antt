@@ -12,10 +12,16 @@ use Rattle.dx_hom.proofs.searching.place_from.Goals.{then-is_open+else-meet_row,
 pub is_open-requires-clause-place : goal.is_open-requires-clause-place
 is_open-requires-clause-place c = (c.in-Some.ensures c.args.goal.now.fixed.now).1
 
-pub meet_row-requires-clause-wide : goal.meet_row-requires-clause-wide
-meet_row-requires-clause-wide c =
-    row_wide c.args.goal.now.into.now c.args.fact.now.table c.in-Some.place c.requires.fits.table (c.in-Some.ensures c.args.goal.now.fixed.now).1
-    c.tables-wide.ensures.rows
+pub meet_row-requires-clause-row : goal.meet_row-requires-clause-row
+meet_row-requires-clause-row c =
+    let fits = c.requires.fits in
+    let place = (c.in-Some.ensures c.args.goal.now.fixed.now).1 in
+    record {
+      table = fits.table;
+      place = place;
+      width = rw c.items.ensures fits.width;
+      wide = row_wide c.args.goal.now.into.now c.args.fact.now.table c.in-Some.place fits.table place c.tables-wide.ensures.rows;
+    }
 
 pub overflow_add-next : goal.overflow_add-next
 overflow_add-next c =

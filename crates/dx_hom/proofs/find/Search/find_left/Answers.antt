@@ -5,4 +5,4 @@ use Rattle.dx_hom.proofs.find.Search.find_left.Goals as goal
 pub returns-clause-exact : goal.returns-clause-exact
 returns-clause-exact c =
     answer_left c.args.into.now c.args.gone.now c.args.fixed.now (option_copied c.args.avoid) c.args.from.now c.search.new.found.cells
-    c.requires.fixed c.search.result c.search.ensures.cases
+    c.requires.fixed_nulls c.search.result c.search.ensures.cases
