@@ -51,6 +51,14 @@ pub not_lead : (I : List TableRows) (t n : ℕ) (link : Link) (o : Option ℕ) �
 not_lead I t n link (Some x) h e m r = true≢false e
 not_lead I t n link None h e m r = let k = r n h in m k.0 (omega arith) k.1 k.2
 
+-- ---- tables
+
+-- a table that has a row at a place is there
+pub row_has_table : (I : List TableRows) (t p : ℕ) → p < length (rows_of I t) → t < length I
+row_has_table [] t p h = absurd (omega (arith, h))
+row_has_table (x ∷ I) zero p h = omega arith
+row_has_table (x ∷ I) (suc t) p h = let k = row_has_table I t p h in omega (arith, k)
+
 -- ---- single columns
 
 pub some_column : (xs : List ℕ) (b : Bool) → b ≡ (length xs == 0) → b ≡ false → 0 < length xs

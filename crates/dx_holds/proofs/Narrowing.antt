@@ -193,6 +193,11 @@ some_known None w P h p = tt
 some_known (Some v) w P h p = subst P (sym h) p
 
 -- a cell of an atom is one of the cells
+-- the member of a list of one is that one
+pub only_member : (c x : Cell) → x ∈ (c ∷ []) → c ≡ x
+only_member c x (here e) = e
+only_member c x (there m) = elim m [ ]
+
 pub in_cells : (A : List Atom) (a : Atom) (c : Cell) → a ∈ A → c ∈ a.cells → c ∈ cells_of A
 in_cells A a c m k = in_flat_map (λ (x : Atom). x.cells) m k
 

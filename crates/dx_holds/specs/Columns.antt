@@ -16,8 +16,8 @@ abbrev pub RowsAgree : List TableRows → ℕ → ℕ → List ℕ → ℕ → L
 RowsAgree I t p from u to q = HasValues I u to (values_in from (row_at I t p)) q
 
 -- what the row that was seen has in its columns
-abbrev pub seen_values : List TableRows → Seen → List Value
-seen_values I row = values_in row.columns.now (row_at I row.table row.place)
+abbrev pub seen_values : Seen → List Value
+seen_values row = values_in row.columns.now (row_at row.instance.now row.table row.place)
 
 -- no two rows of the table have the same values in these columns
 abbrev pub RowsDiffer : List TableRows → ℕ → List ℕ → Type 0

@@ -9,14 +9,10 @@ use Rattle.dx_model.specs.declared.rules.Cell.{Cell}
 use Rattle.dx_model.specs.Rules.{cell_value, fact_of_atom}
 use Rattle.dx_instance.specs.Stored.{TableRows, facts, rows_of}
 use Rattle.dx_holds.specs.declared.matching.Found.{Found}
-use Rattle.dx_holds.specs.declared.matching.Question.{Question}
-use Rattle.dx_holds.specs.Searching.{HaveNoMatch, AtomsFitInstance, IsState, AtomSaysRow, Misses, AddsExactly, HasNoMatchBetween, texts, variable_value}
+use Rattle.dx_holds.specs.declared.question.Question.{Question}
+use Rattle.dx_holds.specs.Searching.{HaveNoMatch, IsState, AtomSaysRow, Misses, AddsExactly, HasNoMatchBetween, texts, variable_value}
 
 -- ---- what is asked
-
--- each atom has a table of the target, and its width; there is a text for each variable
-abbrev pub IsAnswerable : Question → Type 0
-IsAnswerable q = AtomsFitInstance q.target.now q.atoms.now q.tuple.now
 
 -- the text of each variable
 abbrev pub texts_in : Question → ℕ → Text

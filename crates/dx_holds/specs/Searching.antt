@@ -1,10 +1,12 @@
 -- A search for values of existential variables.
-use Rattle.std.specs.Prelude.{◌≡◌, ◌↔◌, ℕ, ◌<◌, ◌≤◌, List, [], ◌++◌, Option, Some, None, drop, length, map, slice_index_or}
+use Rattle.std.specs.Prelude.{◌≡◌, ◌↔◌, ℕ, ◌<◌, ◌≤◌, List, [], ◌++◌, Vec, Option, Some, None, drop, length, map, slice_index_or, vec_capacity}
+use Rattle.std.specs.declared.alloc.Global.{Global}
 use Rattle.dx_ports.specs.Members.{◌∈◌, Distinct, Each, IsPrefix}
 use Rattle.dx_ports.specs.Texts.{Text}
 use Rattle.dx_model.specs.declared.values.Value.{Value}
 use Rattle.dx_model.specs.declared.facts.Fact.{Fact}
 use Rattle.dx_model.specs.declared.rules.Atom.{Atom}
+use Rattle.dx_model.specs.declared.rules.Cell.{Cell}
 use Rattle.dx_model.specs.declared.rules.Cell.TheVariants.{Ex}
 use Rattle.dx_model.specs.Values.{Tuple}
 use Rattle.dx_model.specs.Rules.{cell_value, cells_of, fact_of_atom, text_of, variables, atom_at}
@@ -33,16 +35,31 @@ found_variables found = map (λ (b : Found). b.variable) found
 abbrev pub variable_value : List TableRows → Found → Value
 variable_value I b = value_at I b.table b.place b.column
 
-pub record IsVariableCell (I : List TableRows) (b : Found) : Type 0 where
-  pub table : b.table < length I
-  pub place : b.place < length (rows_of I b.table)
-  pub column : b.column < (table_at I b.table).width
+-- the instance has a cell there: in this column of the row at this place of this table
+pub record HasCellAt (I : List TableRows) (t p c : ℕ) : Type 0 where
+  pub table : t < length I
+  pub place : p < length (rows_of I t)
+  pub column : c < (table_at I t).width
+
+-- the variable has a cell of the instance
+abbrev pub IsVariableCell : List TableRows → Found → Type 0
+IsVariableCell I b = HasCellAt I b.table b.place b.column
 
 -- each variable once, with a cell of the instance; all are below n
 pub record AreFoundCells (I : List TableRows) (n : ℕ) (found : List Found) : Type 0 where
   pub once : Distinct (found_variables found)
   pub cells : Each found (IsVariableCell I)
   pub below : Each found (λ b. b.variable < n)
+
+-- what was found has cells of the instance, and there is room for each existential variable among these cells of an atom
+pub record IsReadyFor (I : List TableRows) (cells : List Cell) (found : Vec Found Global) : Type 0 where
+  pub good : AreFoundCells I (vec_capacity found) found.items
+  pub room : (v : ℕ) → Ex v ∈ cells → v < vec_capacity found
+
+-- there is room for each existential variable of the atoms, and for each atom
+pub record HasRoomForAtoms (A : List Atom) (found : Vec Found Global) (done : Vec ℕ Global) : Type 0 where
+  pub variables : (v : ℕ) → Ex v ∈ cells_of A → v < vec_capacity found
+  pub atoms : length A ≤ vec_capacity done
 
 -- each variable that was found has the value of its cell
 abbrev pub ExtendsFound : List TableRows → List Found → (ℕ → Value) → Type 0

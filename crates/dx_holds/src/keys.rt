@@ -6,7 +6,7 @@ ghost use Rattle.dx_schema.specs.Tables.{model_tables, schema_widths, tables_of,
 ghost use Rattle.dx_instance.specs.Stored.{facts, rows_of, table_at, widths};
 ghost use Rattle.dx_holds.specs.Columns.{IsFirstLike, RowsDetermine, RowsDiffer, TableHolds};
 
-use crate::columns::{Seen, agrees, next_like};
+use crate::columns::Seen;
 use dx_instance::Instance;
 use dx_schema::Schema;
 
@@ -18,11 +18,12 @@ fn first_like(instance: &Instance, table: u32, columns: &[u32], place: u32) -> u
     ensures { IsFirstLike instance.now table columns.now place result }
 {
     let row = Seen {
+        instance,
         table,
         place,
         columns,
     };
-    match next_like(instance, &row, table, columns, 0) {
+    match row.next_like(table, columns, 0) {
         Some(first) => first,
         None => unreachable!(),
     }
@@ -53,11 +54,12 @@ fn determine(instance: &Instance, table: u32, left: &[u32], right: &[u32]) -> bo
 {
     for place in 0..instance.count(table) {
         let first = Seen {
+            instance,
             table,
             place: first_like(instance, table, left, place),
             columns: right,
         };
-        if !agrees(instance, &first, table, right, place) {
+        if !first.agrees(table, right, place) {
             return false;
         }
     }

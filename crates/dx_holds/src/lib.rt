@@ -17,6 +17,7 @@ mod columns;
 mod keys;
 mod links;
 mod matching;
+mod question;
 mod room;
 mod searching;
 mod texts;

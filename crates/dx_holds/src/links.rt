@@ -6,7 +6,7 @@ ghost use Rattle.dx_schema.specs.Tables.{model_tables, schema_widths, tables_of,
 ghost use Rattle.dx_instance.specs.Stored.{facts, rows_of, table_at, widths};
 ghost use Rattle.dx_holds.specs.Columns.{LinkFitsInstance, RowsLead};
 
-use crate::columns::{Seen, next_like};
+use crate::columns::Seen;
 use dx_instance::Instance;
 use dx_model::Link;
 use dx_schema::Schema;
@@ -20,11 +20,12 @@ fn leads(instance: &Instance, table: u32, link: &Link) -> bool
     let columns = link.from.items();
     for place in 0..instance.count(table) {
         let row = Seen {
+            instance,
             table,
             place,
             columns,
         };
-        if next_like(instance, &row, link.table, link.to.items(), 0).is_none() {
+        if row.next_like(link.table, link.to.items(), 0).is_none() {
             return false;
         }
     }

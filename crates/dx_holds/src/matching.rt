@@ -1,15 +1,16 @@
 // Cells that hold the values of existential variables, and the rows that atoms can be.
-ghost use Rattle.std.specs.Prelude.{◌≡◌, ◌↔◌, ◌<◌, ◌+◌, ◌^◌, ℕ, IsTrue, IfSome, MatchOption, length, vec_capacity};
+ghost use Rattle.std.specs.Prelude.{◌≡◌, ◌↔◌, ◌<◌, ◌+◌, ◌^◌, [], ◌∷◌, ℕ, IsTrue, IfSome, MatchOption, length, vec_capacity};
 ghost use Rattle.dx_ports.specs.Members.{◌∈◌};
 ghost use Rattle.dx_model.specs.declared.values.Value.{Value as AnyValue};
 ghost use Rattle.dx_model.specs.declared.values.Value.TheVariants.{Const};
 ghost use Rattle.dx_model.specs.declared.rules.Cell.TheVariants.{Ex, Var};
 ghost use Rattle.dx_model.specs.Rules.{cells_of};
-ghost use Rattle.dx_instance.specs.Stored.{rows_of, table_at};
+ghost use Rattle.dx_instance.specs.Stored.{rows_of};
 ghost use Rattle.dx_instance.specs.Places.{value_at};
-ghost use Rattle.dx_holds.specs.Searching.{AreFoundCells, ExtendsFound, IsVariableCell, found_variables};
-ghost use Rattle.dx_holds.specs.Questions.{FindsRow, HasValue, IsAnswerable, IsNextMatch, NowhereFrom, SaysRow, Settles, TakesValue};
+ghost use Rattle.dx_holds.specs.Searching.{AreFoundCells, ExtendsFound, HasCellAt, IsReadyFor, IsVariableCell, found_variables};
+ghost use Rattle.dx_holds.specs.Questions.{FindsRow, HasValue, IsNextMatch, NowhereFrom, SaysRow, Settles, TakesValue};
 
+use crate::question::Question;
 use crate::texts::text_for;
 use dx_instance::Instance;
 use dx_model::{Atom, Cell, Value, copy_value};
@@ -23,14 +24,6 @@ pub struct Found {
     pub table: u32,
     pub place: u32,
     pub column: u32,
-}
-
-/// What is asked: whether atoms, with texts for their variables, can be facts of an instance.
-#[derive(Clone, Copy)]
-pub(crate) struct Question<'a> {
-    pub atoms: &'a [Atom],
-    pub tuple: &'a [Text],
-    pub target: &'a Instance,
 }
 
 /// Where the variable was found, if it was.
@@ -67,8 +60,7 @@ fn shared_text(text: &Text) -> Option<Value>
 
 /// Whether a variable or a literal has this value. An existential variable has none.
 fn shows(question: &Question, cell: &Cell, value: &Value) -> bool
-    requires asked { IsAnswerable question.now }
-    requires known { (x : ℕ) → cell.now ≡ Var x → Var x ∈ cells_of question.now.atoms.now }
+    requires { (x : ℕ) → cell.now ≡ Var x → Var x ∈ cells_of question.now.atoms.now }
     ensures { (values : ℕ → AnyValue) → ((v : ℕ) → ¬ (cell.now ≡ Ex v)) → IsTrue result ↔ HasValue question.now cell.now value.now values }
 {
     match (cell, value) {
@@ -107,13 +99,9 @@ fn meet_cell(
     place: u32,
     column: u32,
 ) -> bool
-    requires asked { IsAnswerable question.now }
     requires known { cell.now ∈ cells_of question.now.atoms.now }
-    requires table { table < length question.now.target.now }
-    requires place { place < length (rows_of question.now.target.now table) }
-    requires column { column < (table_at question.now.target.now table).width }
-    requires good { AreFoundCells question.now.target.now (vec_capacity found.old) found.old.items }
-    requires below { (v : ℕ) → cell.now ≡ Ex v → v < vec_capacity found.old }
+    requires stands { HasCellAt question.now.target.now table place column }
+    requires ready { IsReadyFor question.now.target.now (cell.now ∷ []) found.old }
     ensures capacity { vec_capacity found.new ≡ vec_capacity found.old }
     ensures cases { Settles result question.now.target.now found.old found.new
         (HasValue question.now cell.now (value_at question.now.target.now table place column)) }
@@ -136,11 +124,9 @@ fn meet_cell(
 
 /// Gives the atom's cells the values of the row at a place, if they can have them.
 fn meet_row(question: &Question, found: &mut Vec<Found>, atom: &Atom, place: u32) -> bool
-    requires asked { IsAnswerable question.now }
     requires atom { atom.now ∈ question.now.atoms.now }
     requires place { place < length (rows_of question.now.target.now atom.now.table) }
-    requires good { AreFoundCells question.now.target.now (vec_capacity found.old) found.old.items }
-    requires below { (v : ℕ) → Ex v ∈ atom.now.cells → v < vec_capacity found.old }
+    requires ready { IsReadyFor question.now.target.now atom.now.cells found.old }
     ensures capacity { vec_capacity found.new ≡ vec_capacity found.old }
     ensures cases { Settles result question.now.target.now found.old found.new (SaysRow question.now atom.now place) }
 {
@@ -158,7 +144,6 @@ fn meet_row(question: &Question, found: &mut Vec<Found>, atom: &Atom, place: u32
 /// The value of a cell, if it is known: its text, or the value of an existential variable that was found. It takes no memory.
 /// None too if a text has too many owners.
 fn known_value(question: &Question, found: &[Found], cell: &Cell) -> Option<Value>
-    requires asked { IsAnswerable question.now }
     requires known { (x : ℕ) → cell.now ≡ Var x → Var x ∈ cells_of question.now.atoms.now }
     requires good { (n : ℕ) × AreFoundCells question.now.target.now n found.now }
     ensures { IfSome result (λ v. (values : ℕ → AnyValue) → ExtendsFound question.now.target.now found.now values
@@ -177,7 +162,6 @@ fn known_value(question: &Question, found: &[Found], cell: &Cell) -> Option<Valu
 
 /// The least place from `from` on whose row agrees with the atom in the first column that is known.
 fn candidate(question: &Question, found: &[Found], atom: &Atom, from: u32) -> Option<u32>
-    requires asked { IsAnswerable question.now }
     requires atom { atom.now ∈ question.now.atoms.now }
     requires good { (n : ℕ) × AreFoundCells question.now.target.now n found.now }
     ensures { MatchOption result (NowhereFrom question.now found.now atom.now from) (IsNextMatch question.now found.now atom.now from) }
@@ -199,10 +183,8 @@ pub(crate) fn next_place(
     atom: &Atom,
     from: u32,
 ) -> Option<u32>
-    requires asked { IsAnswerable question.now }
     requires atom { atom.now ∈ question.now.atoms.now }
-    requires good { AreFoundCells question.now.target.now (vec_capacity found.old) found.old.items }
-    requires below { (v : ℕ) → Ex v ∈ atom.now.cells → v < vec_capacity found.old }
+    requires ready { IsReadyFor question.now.target.now atom.now.cells found.old }
     ensures capacity { vec_capacity found.new ≡ vec_capacity found.old }
     ensures small { IfSome result (λ p. p + 1 < 2 ^ 32) }
     ensures cases { MatchOption result

@@ -6,9 +6,11 @@ ghost use Rattle.dx_model.specs.Rules.{PlacesSatisfied, cells_of, exported};
 ghost use Rattle.dx_model.specs.Fitting.{AtomsFitWidths};
 ghost use Rattle.dx_instance.specs.Stored.{facts, widths};
 ghost use Rattle.dx_holds.specs.Rooms.{FitsRoom};
-ghost use Rattle.dx_holds.specs.Questions.{CanHold, IsAnswerable};
+ghost use Rattle.dx_holds.specs.Searching.{HasRoomForAtoms};
+ghost use Rattle.dx_holds.specs.Questions.{CanHold};
 
-use crate::matching::{Found, Question};
+use crate::matching::Found;
+use crate::question::Question;
 use crate::searching::extend;
 use dx_instance::Instance;
 use dx_model::{Atom, Cell, Places, Rule};
@@ -71,9 +73,7 @@ fn above_atoms(atoms: &[Atom]) -> u64
 
 /// Whether there are values with which all atoms are facts.
 fn completes(question: &Question, found: &mut Vec<Found>, done: &mut Vec<usize>) -> bool
-    requires asked { IsAnswerable question.now }
-    requires below { (v : ℕ) → Ex v ∈ cells_of question.now.atoms.now → v < vec_capacity found.old }
-    requires room { length question.now.atoms.now ≤ vec_capacity done.old }
+    requires { HasRoomForAtoms question.now.atoms.now found.old done.old }
     ensures found_capacity { vec_capacity found.new ≡ vec_capacity found.old }
     ensures done_capacity { vec_capacity done.new ≡ vec_capacity done.old }
     ensures value { IsTrue result ↔ CanHold question.now }

@@ -2,11 +2,11 @@
 ghost use Rattle.std.specs.Prelude.{◌≡◌, ◌↔◌, ◌<◌, ◌≤◌, ◌^◌, ℕ, IsTrue, IfSome, MatchBool, MatchOption, length, vec_capacity};
 ghost use Rattle.dx_ports.specs.Members.{◌∈◌, IsPrefix};
 ghost use Rattle.dx_model.specs.declared.rules.Cell.TheVariants.{Ex};
-ghost use Rattle.dx_model.specs.Rules.{cells_of};
-ghost use Rattle.dx_holds.specs.Searching.{IsAtomWanted, NoneLeft, found_variables};
-ghost use Rattle.dx_holds.specs.Questions.{AreDone, IsAnswerable, RestFails};
+ghost use Rattle.dx_holds.specs.Searching.{HasRoomForAtoms, IsAtomWanted, NoneLeft, found_variables};
+ghost use Rattle.dx_holds.specs.Questions.{AreDone, RestFails};
 
-use crate::matching::{Found, Question, found_at, next_place};
+use crate::matching::{Found, found_at, next_place};
+use crate::question::Question;
 use dx_model::{Atom, Cell};
 
 /// Whether one of the cells is a variable that was found.
@@ -69,10 +69,8 @@ pub(crate) fn extend(
     done: &mut Vec<usize>,
     since: Option<usize>,
 ) -> bool
-    requires asked { IsAnswerable question.now }
     requires state { AreDone question.now (vec_capacity found.old) found.old.items done.old.items }
-    requires below { (v : ℕ) → Ex v ∈ cells_of question.now.atoms.now → v < vec_capacity found.old }
-    requires room { length question.now.atoms.now ≤ vec_capacity done.old }
+    requires room { HasRoomForAtoms question.now.atoms.now found.old done.old }
     requires since { IfSome since (λ m. m ≤ length found.old.items) }
     ensures found_capacity { vec_capacity found.new ≡ vec_capacity found.old }
     ensures done_capacity { vec_capacity done.new ≡ vec_capacity done.old }

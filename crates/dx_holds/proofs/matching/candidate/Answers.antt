@@ -9,7 +9,7 @@ use Rattle.dx_holds.proofs.matching.candidate.Goals as goal
 
 pub known_value-requires-clause-known : goal.known_value-requires-clause-known
 known_value-requires-clause-known c =
-    let h : c.loop-column.column-counter < length c.args.atom.now.cells = omega (arith, (c.requires.asked.tables c.args.atom.now c.requires.atom).1, c.width-column-end.ensures, c.loop-column-test.true) in
+    let h : c.loop-column.column-counter < length c.args.atom.now.cells = omega (arith, (c.args.question.now.fit.tables c.args.atom.now c.requires.atom).1, c.width-column-end.ensures, c.loop-column-test.true) in
     let is : c.index-cells-column.result ≡ get_or c.args.atom.now.cells c.loop-column.column-counter c.index-cells-column.result = rw c.items-cells.ensures at c.index-cells-column.is in
     let m = rw (← is) at (in_at c.args.atom.now.cells c.loop-column.column-counter c.index-cells-column.result h) in
     λ x e. subst (λ (z : Cell). z ∈ cells_of c.args.question.now.atoms.now) e (in_cells c.args.question.now.atoms.now c.args.atom.now c.index-cells-column.result c.requires.atom m)
@@ -22,7 +22,7 @@ with_columns-requires-2-clause-columns c = λ k m. elim m [ ]
 
 pub returns-in-Some : goal.returns-in-Some
 returns-in-Some c =
-    let h : c.loop-column.column-counter < length c.args.atom.now.cells = omega (arith, (c.requires.asked.tables c.args.atom.now c.requires.atom).1, c.width-column-end.ensures, c.loop-column-test.true) in
+    let h : c.loop-column.column-counter < length c.args.atom.now.cells = omega (arith, (c.args.question.now.fit.tables c.args.atom.now c.requires.atom).1, c.width-column-end.ensures, c.loop-column-test.true) in
     by_column (texts c.args.question.now.atoms.now c.args.question.now.tuple.now) c.args.question.now.target.now c.args.found.now c.args.atom.now c.loop-column.column-counter c.args.from c.index-cells-column.result c.in-Some.value h
     (rw c.items-cells.ensures at c.index-cells-column.is) c.in-Some.ensures
     c.with_columns.result (rw (c.from_ref.ensures.value, c.from_ref-in-Some.ensures.value) at c.with_columns.ensures)

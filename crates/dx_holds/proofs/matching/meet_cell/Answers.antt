@@ -1,5 +1,6 @@
 use Rattle.std.proofs.Common.{◌≡◌, ℕ, refl, sym, subst, vec_capacity}
 use Rattle.std.specs.Prelude.{MatchBool}
+use Rattle.dx_ports.specs.Members.{here}
 use Rattle.dx_model.specs.declared.values.Value.{Value}
 use Rattle.dx_model.specs.declared.rules.Cell.{Cell}
 use Rattle.dx_model.specs.Rules.{cell_value}
@@ -7,6 +8,15 @@ use Rattle.dx_instance.specs.Places.{value_at}
 use Rattle.dx_holds.specs.Searching.{Misses, AddsExactly, texts}
 use Rattle.dx_holds.proofs.Narrowing.{answer_known}
 use Rattle.dx_holds.proofs.matching.meet_cell.Goals as goal
+
+pub meet_variable-requires-clause-cell : goal.meet_variable-requires-clause-cell
+meet_variable-requires-clause-cell c = c.requires.stands
+
+pub meet_variable-requires-clause-good : goal.meet_variable-requires-clause-good
+meet_variable-requires-clause-good c = c.requires.ready.good
+
+pub meet_variable-requires-clause-below : goal.meet_variable-requires-clause-below
+meet_variable-requires-clause-below c = c.requires.ready.room c.in-Ex.variable (here c.in-Ex.is)
 
 pub returns-in-Ex-clause-cases : goal.returns-in-Ex-clause-cases
 returns-in-Ex-clause-cases c =
@@ -20,5 +30,5 @@ pub returns-in_default : goal.returns-in_default
 returns-in_default c = record {
   capacity = refl;
   cases = answer_known c.args.question.now.target.now (vec_capacity c.args.found.now) c.args.found.now.items (λ (values : ℕ → Value). cell_value (texts c.args.question.now.atoms.now c.args.question.now.tuple.now) values c.args.cell.now)
-      (value_at c.args.question.now.target.now c.args.table c.args.place c.args.column) c.shows.result c.requires.good (λ values. rw c.cell.ensures at (c.shows.ensures values c.in_default.not-Ex));
+      (value_at c.args.question.now.target.now c.args.table c.args.place c.args.column) c.shows.result c.requires.ready.good (λ values. rw c.cell.ensures at (c.shows.ensures values c.in_default.not-Ex));
 }

@@ -1,14 +1,23 @@
-use Rattle.std.proofs.Common.{◌≡◌, ◌<◌, ◌^◌, ◌∙◌, [], ap, arith, length, sym}
+use Rattle.std.proofs.Common.{◌≡◌, ◌<◌, ◌^◌, ◌∙◌, [], ap, arith, length, sym, vec_capacity}
 use Rattle.dx_ports.proofs.Members.{in_at}
 use Rattle.dx_instance.specs.Stored.{rows_of, table_at}
 use Rattle.dx_holds.specs.Searching.{texts}
 use Rattle.dx_holds.proofs.Narrowing.{cut, skips_more, skips_on}
 use Rattle.dx_holds.proofs.matching.next_place.Goals as goal
 
+pub candidate-requires-clause-good : goal.candidate-requires-clause-good
+candidate-requires-clause-good c = (vec_capacity c.args.found.now, rw (c.as_slice.ensures.value, c.loop-place.invariant.same) c.requires.ready.good)
+
+pub meet_row-requires-clause-ready : goal.meet_row-requires-clause-ready
+meet_row-requires-clause-ready c = record {
+  good = rw (c.loop-place.invariant.capacity, c.loop-place.invariant.same) c.requires.ready.good;
+  room = rw c.loop-place.invariant.capacity c.requires.ready.room;
+}
+
 pub returns-then-meet_row-clause-small : goal.returns-then-meet_row-clause-small
 returns-then-meet_row-clause-small c =
     let few : length (rows_of c.args.question.now.target.now c.args.atom.now.table) < 2 ^ 32 =
-    c.tables-few.ensures.few (table_at c.args.question.now.target.now c.args.atom.now.table) (in_at c.args.question.now.target.now c.args.atom.now.table (record { width = 0; rows = [] }) (c.requires.asked.tables c.args.atom.now c.requires.atom).0) in
+    c.tables-few.ensures.few (table_at c.args.question.now.target.now c.args.atom.now.table) (in_at c.args.question.now.target.now c.args.atom.now.table (record { width = 0; rows = [] }) (c.args.question.now.fit.tables c.args.atom.now c.requires.atom).0) in
     omega (arith, few, c.in-Some.ensures.1)
 
 pub returns-then-meet_row-clause-cases : goal.returns-then-meet_row-clause-cases
@@ -25,7 +34,7 @@ returns-then-meet_row-clause-cases c =
 pub overflow_add-next : goal.overflow_add-next
 overflow_add-next c =
     let few : length (rows_of c.args.question.now.target.now c.args.atom.now.table) < 2 ^ 32 =
-    c.tables-few.ensures.few (table_at c.args.question.now.target.now c.args.atom.now.table) (in_at c.args.question.now.target.now c.args.atom.now.table (record { width = 0; rows = [] }) (c.requires.asked.tables c.args.atom.now c.requires.atom).0) in
+    c.tables-few.ensures.few (table_at c.args.question.now.target.now c.args.atom.now.table) (in_at c.args.question.now.target.now c.args.atom.now.table (record { width = 0; rows = [] }) (c.args.question.now.fit.tables c.args.atom.now c.requires.atom).0) in
     omega (arith, few, c.in-Some.ensures.1)
 
 pub loop-place-preserved : goal.loop-place-preserved

@@ -13,16 +13,21 @@ use Rattle.dx_holds.proofs.room.satisfied.Goals as goal
 tuple_there : (ts : List Tuple) (i n : ℕ) (t : Tuple) → i < n → n ≡ length ts → t ≡ get_or ts i [] → (i < length ts) × (t ≡ get_or ts i t)
 tuple_there ts i n t h m e = let b : i < length ts = rw (← m) h in (b, e ∙ get_or_default ts i [] t b)
 
-pub completes-requires-clause-asked : goal.completes-requires-clause-asked
-completes-requires-clause-asked c =
+pub invariant_of-question : goal.invariant_of-question
+invariant_of-question c =
     let t = tuple_there c.args.places.now.tuples c.loop-place.place c.len-place-end.result c.tuple.result.now c.loop-place-test.true c.len-place-end.ensures c.tuple.ensures in
-    rw c.items-atoms.ensures (is_asked c.args.target.now c.args.rule.now c.tuple.result.now c.requires.conclusion
-    (each_item (λ (t : Tuple). length t ≡ length (exported c.args.rule.now)) c.args.places.now.tuples c.loop-place.place c.tuple.result.now t.0 t.1 c.requires.tuples))
+    record {
+      fit = rw c.items-atoms.ensures (is_asked c.args.target.now c.args.rule.now c.tuple.result.now c.requires.conclusion
+          (each_item (λ (t : Tuple). length t ≡ length (exported c.args.rule.now)) c.args.places.now.tuples c.loop-place.place c.tuple.result.now t.0 t.1 c.requires.tuples));
+    }
 
-pub completes-requires-clause-below : goal.completes-requires-clause-below
-completes-requires-clause-below c = λ v m.
-    let h = ex_below (cells_of c.args.rule.now.conclusion) v (rw c.items-atoms.ensures at m) in
-    omega (arith, h, c.requires.room.existentials, c.loop-place.invariant.existentials, c.loop-place.invariant.found)
+pub completes-requires : goal.completes-requires
+completes-requires c = record {
+  variables = λ v m.
+      let h = ex_below (cells_of c.args.rule.now.conclusion) v (rw c.items-atoms.ensures at m) in
+      omega (arith, h, c.requires.room.existentials, c.loop-place.invariant.existentials, c.loop-place.invariant.found);
+  atoms = rw c.items-atoms.ensures (omega (arith, c.requires.room.atoms, c.loop-place.invariant.atoms, c.loop-place.invariant.done));
+}
 
 pub returns-then-not-completes-clause-value : goal.returns-then-not-completes-clause-value
 returns-then-not-completes-clause-value c =

@@ -12,15 +12,18 @@ use Rattle.dx_holds.proofs.searching.+extend.Goals as goal
 pub next_place-requires-clause-atom : goal.next_place-requires-clause-atom
 next_place-requires-clause-atom t c = in_at c.args.question.now.atoms.now c.in-Some.next c.index-question-next.result c.in-Some.ensures.0
 
-pub next_place-requires-clause-below : goal.next_place-requires-clause-below
-next_place-requires-clause-below t c = λ v m.
-    rw c.loop-place.invariant.found_capacity (c.requires.below v (in_cells c.args.question.now.atoms.now (get_or c.args.question.now.atoms.now c.in-Some.next c.index-question-next.result) (Ex v) (in_at c.args.question.now.atoms.now c.in-Some.next c.index-question-next.result c.in-Some.ensures.0) m))
+pub next_place-requires-clause-ready : goal.next_place-requires-clause-ready
+next_place-requires-clause-ready t c = record {
+  good = rw (c.loop-place.invariant.found_capacity, c.loop-place.invariant.found_same) c.requires.state.good;
+  room = λ v m.
+      rw c.loop-place.invariant.found_capacity (c.requires.room.variables v (in_cells c.args.question.now.atoms.now (get_or c.args.question.now.atoms.now c.in-Some.next c.index-question-next.result) (Ex v) (in_at c.args.question.now.atoms.now c.in-Some.next c.index-question-next.result c.in-Some.ensures.0) m));
+}
 
 pub push_reserved-requires : goal.push_reserved-requires
 push_reserved-requires t c =
     let new = rw c.as_slice-2.ensures.value at c.in-Some.ensures.1 in
     let r = done_room (texts c.args.question.now.atoms.now c.args.question.now.tuple.now) c.args.question.now.atoms.now c.args.question.now.target.now (vec_capacity c.args.found.now) c.args.found.now.items c.args.done.now.items c.in-Some.next c.requires.state c.in-Some.ensures.0 new in
-    omega (arith, r, c.requires.room, c.loop-place.invariant.done_capacity, c.loop-place.done.ok.0, ap length c.loop-place.invariant.done_same)
+    omega (arith, r, c.requires.room.atoms, c.loop-place.invariant.done_capacity, c.loop-place.done.ok.0, ap length c.loop-place.invariant.done_same)
 
 pub extend-requires : goal.extend-requires
 extend-requires t c =
@@ -34,13 +37,13 @@ extend-requires t c =
     let s = state_more (texts c.args.question.now.atoms.now c.args.question.now.tuple.now) c.args.question.now.atoms.now c.args.question.now.target.now (vec_capacity c.args.found.now) c.args.found.now.items c.next_place.new.found.items c.args.done.now.items c.in-Some.next c.in-Some-next_place.place c.requires.state c.in-Some.ensures.0 new met.0.1 met.1 in (
       omega (arith, c.decreases, r, longer),
       (
-        c.requires.asked,
+        rw (c.next_place.ensures.capacity, c.loop-place.invariant.found_capacity, pushed) s,
         (
-          rw (c.next_place.ensures.capacity, c.loop-place.invariant.found_capacity, pushed) s,
-          (
-            rw (c.next_place.ensures.capacity, c.loop-place.invariant.found_capacity) c.requires.below,
-            (omega (arith, c.requires.room, c.push_reserved.ensures.capacity, c.loop-place.invariant.done_capacity), omega (arith, found_longer, c.len-mark.ensures, c.args.found.now.ok.0)),
-          ),
+          record {
+            variables = rw (c.next_place.ensures.capacity, c.loop-place.invariant.found_capacity) c.requires.room.variables;
+            atoms = omega (arith, c.requires.room.atoms, c.push_reserved.ensures.capacity, c.loop-place.invariant.done_capacity);
+          },
+          omega (arith, found_longer, c.len-mark.ensures, c.args.found.now.ok.0),
         ),
       ),
     )
@@ -60,16 +63,13 @@ extend-requires-then-extend t c =
     let few = done_few (texts c.args.question.now.atoms.now c.args.question.now.tuple.now) c.args.question.now.atoms.now c.args.question.now.target.now _ c.extend.new.found.items c.extend.new.done.items s in (
       omega (arith, c.decreases, r, longer, done_longer, few),
       (
-        c.requires.asked,
+        rw c.if-extend.ensures.found_capacity s,
         (
-          rw c.if-extend.ensures.found_capacity s,
-          (
-            rw (c.if-extend.ensures.found_capacity, c.next_place.ensures.capacity, c.loop-place.invariant.found_capacity) c.requires.below,
-            (
-              omega (arith, c.requires.room, c.if-extend.ensures.done_capacity, c.push_reserved.ensures.capacity, c.loop-place.invariant.done_capacity),
-              since_longer c.args.since (length c.args.found.now.items) (length c.extend.new.found.items) (omega (arith, found_longer, more_found)) c.requires.since,
-            ),
-          ),
+          record {
+            variables = rw (c.if-extend.ensures.found_capacity, c.next_place.ensures.capacity, c.loop-place.invariant.found_capacity) c.requires.room.variables;
+            atoms = omega (arith, c.requires.room.atoms, c.if-extend.ensures.done_capacity, c.push_reserved.ensures.capacity, c.loop-place.invariant.done_capacity);
+          },
+          since_longer c.args.since (length c.args.found.now.items) (length c.extend.new.found.items) (omega (arith, found_longer, more_found)) c.requires.since,
         ),
       ),
     )
