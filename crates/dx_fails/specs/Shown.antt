@@ -1,5 +1,5 @@
 -- What shows that a determination or a link does not hold, by the places of rows.
-use Rattle.std.specs.Prelude.{◌≡◌, ℕ, ◌<◌, List, [], ◌∷◌, Option, MatchOption, length}
+use Rattle.std.specs.Prelude.{◌≡◌, ℕ, ◌<◌, ◌≤◌, ◌^◌, List, [], ◌∷◌, Option, MatchOption, length}
 use Rattle.dx_ports.specs.Members.{◌∈◌}
 use Rattle.dx_model.specs.declared.facts.Fact.{Fact}
 use Rattle.dx_model.specs.declared.tables.Link.{Link}
@@ -32,6 +32,17 @@ pub record IsLoneRow (schema : List Table) (I : List TableRows) (r : LoneRow) : 
 
 -- ---- rows in some columns
 
+-- a table may have so many columns
+pub record IsWidth (n : ℕ) : Type 0 where
+  pub some : 1 ≤ n
+  pub few : n < 2 ^ 32
+
+-- a table of this width has these columns; those on the left are so few that they have numbers
+pub record AreColumnsWithin (width : ℕ) (d : Determines) : Type 0 where
+  pub left : (c : ℕ) → c ∈ d.left.now → c < width
+  pub few : length d.left.now < 2 ^ 32
+  pub right : (c : ℕ) → c ∈ d.right.now → c < width
+
 -- columns that determine columns, as a determination
 abbrev pub as_determination : Determines → Determination
 as_determination d = record { left = d.left.now; right = d.right.now }
@@ -54,9 +65,11 @@ pub record AreShadows (I : List TableRows) (t : ℕ) (columns : List ℕ) (S : L
 abbrev pub HasLinkedRow : List TableRows → ℕ → Link → ℕ → Type 0
 HasLinkedRow I t link p = (q : ℕ) × (q < length (rows_of I link.table)) × RowsAgree I t p link.from link.table link.to q
 
--- a place of the table whose row lacks the row that the link names, or each row has it
+-- the first place of the table whose row lacks the row that the link names, or each row has it
 abbrev pub IsAloneOrNone : List TableRows → ℕ → Link → Option ℕ → Type 0
-IsAloneOrNone I t link o = MatchOption o (RowsLead I t link) (λ p. (p < length (rows_of I t)) × (¬ (HasLinkedRow I t link p)))
+IsAloneOrNone I t link o =
+    MatchOption o (RowsLead I t link)
+    (λ p. (p < length (rows_of I t)) × (¬ (HasLinkedRow I t link p)) × ((q : ℕ) → q < p → HasLinkedRow I t link q))
 
 -- ---- one table
 

@@ -1,10 +1,10 @@
 // The first link that does not hold.
-ghost use Rattle.std.specs.Prelude.{◌≡◌, ◌<◌, ◌≤◌, ◌^◌, IfOk, MatchOption, length};
+ghost use Rattle.std.specs.Prelude.{◌≡◌, ◌<◌, IfOk, MatchOption, length};
 ghost use Rattle.dx_model.specs.Tables.{LinksHold};
 ghost use Rattle.dx_schema.specs.Tables.{model_tables, schema_widths};
 ghost use Rattle.dx_instance.specs.Stored.{facts, table_at, widths};
 ghost use Rattle.dx_holds.specs.Columns.{LinkFitsInstance};
-ghost use Rattle.dx_fails.specs.Shown.{AllLead, IsAloneOrNone, IsLoneIn, IsLoneRow};
+ghost use Rattle.dx_fails.specs.Shown.{AllLead, IsAloneOrNone, IsLoneIn, IsLoneRow, IsWidth};
 
 use crate::shadows::{shadow_of, shadows};
 use dx_instance::Instance;
@@ -20,7 +20,7 @@ pub struct LoneRow {
     pub place: u32,
 }
 
-// A row of a table that lacks the row that the link names.
+// The first row of a table that lacks the row that the link names.
 fn first_alone(
     alloc: Global,
     instance: &Instance,
@@ -29,8 +29,7 @@ fn first_alone(
 ) -> Result<Option<u32>, AllocError>
     requires table { table < length instance.now }
     requires fits { LinkFitsInstance instance.now (table_at instance.now table).width link.now }
-    requires some { 1 ≤ length link.now.from }
-    requires few { length link.now.from < 2 ^ 32 }
+    requires wide { IsWidth (length link.now.from) }
     ensures { IfOk result (IsAloneOrNone instance.now table link.now) }
 {
     let named = shadows(alloc, instance, link.table, link.to.items())?;

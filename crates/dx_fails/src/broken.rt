@@ -1,14 +1,14 @@
 // The first key or dependency that does not hold.
-ghost use Rattle.std.specs.Prelude.{◌≡◌, ◌<◌, ◌^◌, ℕ, IfOk, MatchOption, length};
+ghost use Rattle.std.specs.Prelude.{◌≡◌, ◌<◌, ℕ, IfOk, MatchOption, length};
 ghost use Rattle.dx_ports.specs.Members.{◌∈◌};
 ghost use Rattle.dx_model.specs.Tables.{KeysHold};
 ghost use Rattle.dx_schema.specs.Tables.{model_tables, schema_widths};
 ghost use Rattle.dx_instance.specs.Places.{value_at};
 ghost use Rattle.dx_instance.specs.Stored.{facts, rows_of, table_at, widths};
 ghost use Rattle.dx_holds.specs.Columns.{RowsAgree, RowsDetermine};
-ghost use Rattle.dx_fails.specs.Shown.{AllIn, IsViolation, IsBrokenIn, IsBrokenKey};
+ghost use Rattle.dx_fails.specs.Shown.{AllIn, AreColumnsWithin, IsViolation, IsBrokenIn, IsBrokenKey};
 
-use crate::determining::{all_columns, determinations};
+use crate::determining::{Determines, all_columns, determinations};
 use dx_instance::Instance;
 use dx_schema::Schema;
 use std::alloc::{AllocError, Global};
@@ -34,7 +34,6 @@ struct Apart {
 
 // The first of these columns in which two rows of a table differ.
 fn differing(instance: &Instance, table: u32, columns: &[u32], left: u32, right: u32) -> Option<u32>
-    requires table { table < length instance.now }
     requires columns { (c : ℕ) → c ∈ columns.now → c < (table_at instance.now table).width }
     requires left { left < length (rows_of instance.now table) }
     requires right { right < length (rows_of instance.now table) }
@@ -55,20 +54,17 @@ fn differing(instance: &Instance, table: u32, columns: &[u32], left: u32, right:
 fn apart_in(
     instance: &Instance,
     table: u32,
-    left: &[u32],
-    right: &[u32],
+    columns: &Determines<'_>,
 ) -> Result<Option<Apart>, AllocError>
     requires table { table < length instance.now }
-    requires left { (c : ℕ) → c ∈ left.now → c < (table_at instance.now table).width }
-    requires few { length left.now < 2 ^ 32 }
-    requires right { (c : ℕ) → c ∈ right.now → c < (table_at instance.now table).width }
-    ensures { IfOk result (λ o. MatchOption o (RowsDetermine instance.now table left.now right.now)
-        (IsViolation instance.now table left.now right.now)) }
+    requires columns { AreColumnsWithin (table_at instance.now table).width columns.now }
+    ensures { IfOk result (λ o. MatchOption o (RowsDetermine instance.now table columns.now.left.now columns.now.right.now)
+        (IsViolation instance.now table columns.now.left.now columns.now.right.now)) }
 {
-    let firsts = instance.firsts(table, left)?;
+    let firsts = instance.firsts(table, columns.left)?;
     for place in 0..instance.count(table) {
         let first = firsts[place as usize];
-        if let Some(column) = differing(instance, table, right, first, place) {
+        if let Some(column) = differing(instance, table, columns.right, first, place) {
             return Ok(Some(Apart {
                 left: first,
                 right: place,
@@ -96,7 +92,7 @@ fn broken_in(
     let found = determinations(alloc, schema, table, &all)?;
     for key in 0..found.len() {
         let columns = found[key];
-        if let Some(apart) = apart_in(instance, table, columns.left, columns.right)? {
+        if let Some(apart) = apart_in(instance, table, &columns)? {
             return Ok(Some(BrokenKey {
                 table,
                 key: key as u32,

@@ -1,18 +1,17 @@
 // What rows of a table have in some columns.
-ghost use Rattle.std.specs.Prelude.{◌≡◌, ◌<◌, ◌≤◌, ◌^◌, [], ◌∷◌, ℕ, IfOk, length};
+ghost use Rattle.std.specs.Prelude.{◌≡◌, ◌<◌, [], ◌∷◌, ℕ, IfOk, length};
 ghost use Rattle.dx_ports.specs.Members.{◌∈◌};
 ghost use Rattle.dx_model.specs.Tables.{values_in};
 ghost use Rattle.dx_instance.specs.Places.{row_at};
 ghost use Rattle.dx_instance.specs.Stored.{rows_of, table_at, without_rows};
-ghost use Rattle.dx_fails.specs.Shown.{AreShadows};
+ghost use Rattle.dx_fails.specs.Shown.{AreShadows, IsWidth};
 
 use dx_instance::{Instance, Row, copy_value};
 use std::alloc::{AllocError, Global};
 
 // An instance of one table for the values of rows in these columns.
 fn no_shadows(alloc: Global, columns: &[u32]) -> Result<Instance, AllocError>
-    requires some { 1 ≤ length columns.now }
-    requires few { length columns.now < 2 ^ 32 }
+    requires { IsWidth (length columns.now) }
     ensures { IfOk result (λ I. I ≡ without_rows (length columns.now ∷ [])) }
 {
     let mut widths = Vec::new(alloc);
@@ -57,8 +56,7 @@ pub(crate) fn shadows(
 ) -> Result<Instance, AllocError>
     requires table { table < length instance.now }
     requires columns { (c : ℕ) → c ∈ columns.now → c < (table_at instance.now table).width }
-    requires some { 1 ≤ length columns.now }
-    requires few { length columns.now < 2 ^ 32 }
+    requires wide { IsWidth (length columns.now) }
     ensures { IfOk result (AreShadows instance.now table columns.now) }
 {
     let _few = instance.tables();

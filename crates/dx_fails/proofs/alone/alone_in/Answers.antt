@@ -10,16 +10,11 @@ first_alone-requires-clause-fits c =
     link_fits c.args.schema.now c.args.instance.now c.args.table c.index-links-i.result c.requires.widths c.tables-fits.ensures.facts c.requires.table
     (rw (← c.links_of-links.ensures, c.index-links-i.is) (in_at c.links_of-links.result.now c.loop-i.i c.index-links-i.result c.loop-i-test.true))
 
-pub first_alone-requires-clause-some : goal.first_alone-requires-clause-some
-first_alone-requires-clause-some c =
-    (link_few c.args.schema.now c.args.instance.now c.args.table c.index-links-i.result c.requires.widths c.tables-fits.ensures.facts c.requires.table
-    (rw (← c.links_of-links.ensures, c.index-links-i.is) (in_at c.links_of-links.result.now c.loop-i.i c.index-links-i.result c.loop-i-test.true))).0
-
-pub first_alone-requires-clause-few : goal.first_alone-requires-clause-few
-first_alone-requires-clause-few c =
-    let few = (link_few c.args.schema.now c.args.instance.now c.args.table c.index-links-i.result c.requires.widths c.tables-fits.ensures.facts c.requires.table
-    (rw (← c.links_of-links.ensures, c.index-links-i.is) (in_at c.links_of-links.result.now c.loop-i.i c.index-links-i.result c.loop-i-test.true))).1 in
-    omega (arith, few)
+pub first_alone-requires-clause-wide : goal.first_alone-requires-clause-wide
+first_alone-requires-clause-wide c =
+    let wide = link_few c.args.schema.now c.args.instance.now c.args.table c.index-links-i.result c.requires.widths c.tables-fits.ensures.facts c.requires.table
+    (rw (← c.links_of-links.ensures, c.index-links-i.is) (in_at c.links_of-links.result.now c.loop-i.i c.index-links-i.result c.loop-i-test.true)) in
+    record { some = wide.0; few = omega (arith, wide.1) }
 
 pub overflow_cast-result : goal.overflow_cast-result
 overflow_cast-result c =

@@ -2,4 +2,4 @@ use Rattle.dx_holds.proofs.Determining.{DetermineTo}
 use Rattle.dx_fails.proofs.broken.apart_in.Given as goal
 
 abbrev pub invariant-loop-place : goal.invariant-loop-place
-invariant-loop-place l = DetermineTo l.instance l.table l.left l.right l.place
+invariant-loop-place l = DetermineTo l.instance l.table l.columns.left.now l.columns.right.now l.place

@@ -10,22 +10,13 @@ pub determinations-requires-clause-all : goal.determinations-requires-clause-all
 determinations-requires-clause-all c =
     c.deref.ensures.value ∙ (c.in_ok-all.ensures ∙ ap (range_with_len 0) (c.width.ensures ∙ as_wide c.args.schema.now c.args.instance.now c.args.table c.requires.widths c.requires.table))
 
-pub apart_in-requires-clause-left : goal.apart_in-requires-clause-left
-apart_in-requires-clause-left c =
-    (within c.args.schema.now c.args.instance.now c.requires.widths c.args.table c.requires.table c.in_ok-found.found.items c.in_ok-found.ensures c.loop-key.key c.index-columns.result.now
-    (omega (arith, c.len-key-end.ensures, c.loop-key-test.true)) c.index-columns.ensures c.tables-fits.ensures.fits).0
-
-pub apart_in-requires-clause-few : goal.apart_in-requires-clause-few
-apart_in-requires-clause-few c =
-    let few =
-    left_few c.args.schema.now c.args.instance.now c.requires.widths c.args.table c.requires.table c.in_ok-found.found.items c.in_ok-found.ensures c.loop-key.key c.index-columns.result.now
-    (omega (arith, c.len-key-end.ensures, c.loop-key-test.true)) c.index-columns.ensures c.tables-fits.ensures.facts in
-    omega (arith, few)
-
-pub apart_in-requires-clause-right : goal.apart_in-requires-clause-right
-apart_in-requires-clause-right c =
-    (within c.args.schema.now c.args.instance.now c.requires.widths c.args.table c.requires.table c.in_ok-found.found.items c.in_ok-found.ensures c.loop-key.key c.index-columns.result.now
-    (omega (arith, c.len-key-end.ensures, c.loop-key-test.true)) c.index-columns.ensures c.tables-fits.ensures.fits).1
+pub apart_in-requires-clause-columns : goal.apart_in-requires-clause-columns
+apart_in-requires-clause-columns c =
+    let fits = within c.args.schema.now c.args.instance.now c.requires.widths c.args.table c.requires.table c.in_ok-found.found.items c.in_ok-found.ensures c.loop-key.key c.index.result.now
+    (omega (arith, c.len-key-end.ensures, c.loop-key-test.true)) c.index.ensures c.tables-fits.ensures.fits in
+    let few = left_few c.args.schema.now c.args.instance.now c.requires.widths c.args.table c.requires.table c.in_ok-found.found.items c.in_ok-found.ensures c.loop-key.key c.index.result.now
+    (omega (arith, c.len-key-end.ensures, c.loop-key-test.true)) c.index.ensures c.tables-fits.ensures.facts in
+    record { left = fits.0; few = omega (arith, few); right = fits.1 }
 
 pub overflow_cast-result : goal.overflow_cast-result
 overflow_cast-result c =
@@ -37,15 +28,15 @@ overflow_cast-result c =
 pub returns-in-Some : goal.returns-in-Some
 returns-in-Some c =
     let listed = as_listed c.args.schema.now c.args.instance.now c.requires.widths c.args.table c.requires.table c.in_ok-found.found.items c.in_ok-found.ensures in
-    broken_here (model_tables c.args.schema.now) c.args.instance.now c.args.table c.in_ok-found.found.items listed c.loop-key.key c.index-columns.result.now c.in-Some.apart
-    (omega (arith, c.len-key-end.ensures, c.loop-key-test.true)) c.index-columns.ensures (rw c.in-Some.is at c.in_ok-apart.ensures) c.loop-key.invariant
+    broken_here (model_tables c.args.schema.now) c.args.instance.now c.args.table c.in_ok-found.found.items listed c.loop-key.key c.index.result.now c.in-Some.apart
+    (omega (arith, c.len-key-end.ensures, c.loop-key-test.true)) c.index.ensures (rw c.in-Some.is at c.in_ok-apart.ensures) c.loop-key.invariant
 
 pub loop-key-preserved : goal.loop-key-preserved
 loop-key-preserved c =
     let listed = as_listed c.args.schema.now c.args.instance.now c.requires.widths c.args.table c.requires.table c.in_ok-found.found.items c.in_ok-found.ensures in
     below_more _ _ c.loop-key.invariant
-    (holds_here (model_tables c.args.schema.now) c.args.instance.now c.args.table c.in_ok-found.found.items listed c.loop-key.key c.index-columns.result.now
-    (omega (arith, c.len-key-end.ensures, c.loop-key-test.true)) c.index-columns.ensures (rw c.in_default.is at c.in_ok-apart.ensures))
+    (holds_here (model_tables c.args.schema.now) c.args.instance.now c.args.table c.in_ok-found.found.items listed c.loop-key.key c.index.result.now
+    (omega (arith, c.len-key-end.ensures, c.loop-key-test.true)) c.index.ensures (rw c.in_default.is at c.in_ok-apart.ensures))
 
 pub returns : goal.returns
 returns c =
