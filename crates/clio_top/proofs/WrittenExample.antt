@@ -1,5 +1,5 @@
--- The first worked example, to its end: what an exchange of it writes, in plain mode, is exactly these five files and this text. No clash
--- is told of it, and no other command is done by its words.
+-- The first worked example, to its end: what an exchange of it writes, in plain mode, is exactly these five files and this text; in core
+-- mode it has the same target. No clash is told of it, and no other command is done by its words.
 use Rattle.std.proofs.Common.{◌≡◌, ◌⊎◌, ℕ, suc, zero, List, [], ◌∷◌, ◌++◌, get_or, map, inl, inr, refl, sym, ◌∙◌, ap, subst, arith, Some, Bool, true, false}
 use Rattle.std.specs.Prelude.{codes, length}
 use Rattle.std.specs.Fmt.{digits}
@@ -8,7 +8,7 @@ use Rattle.csv.specs.Machine.{next_record}
 use Rattle.csv.specs.Reading.{records_from, strip_bom}
 use Rattle.csv.specs.Writing.{fields_text, is_blank}
 use Rattle.dx_ports.specs.Entries.{Entry}
-use Rattle.dx_ports.specs.Members.{◌∈◌, ◌≈◌, here, there}
+use Rattle.dx_ports.specs.Members.{◌∈◌, ◌⊆◌, ◌≈◌, Each, here, there}
 use Rattle.dx_ports.specs.Texts.{Text}
 use Rattle.dx_model.specs.declared.facts.Fact.{Fact}
 use Rattle.dx_model.specs.declared.facts.NullPair.{NullPair}
@@ -16,10 +16,10 @@ use Rattle.dx_model.specs.declared.values.NullId.{NullId}
 use Rattle.dx_model.specs.declared.values.Value.{Value}
 use Rattle.dx_model.specs.declared.values.Value.TheVariants.{Const, Null}
 use Rattle.dx_model.specs.Chase.{IsForcedMap}
-use Rattle.dx_model.specs.Instances.{given, image, values}
+use Rattle.dx_model.specs.Instances.{IsNullMap, given, image, values}
 use Rattle.dx_model.specs.Rules.{canonical}
 use Rattle.dx_model.specs.Solutions.{IsSolution}
-use Rattle.dx_model.specs.Tables.{FactFits, IsKeyed, Table}
+use Rattle.dx_model.specs.Tables.{FactFits, IsKeyed, Table, cell}
 use Rattle.std.specs.declared.cmp.Ordering.TheVariants.{Less}
 use Rattle.dx_model.specs.Values.{NullsAscend, Rows, RowsAscend, null_cmp, row_cmp}
 use Rattle.dx_model.proofs.Ascending.{one_ascending, one_fact_list}
@@ -34,9 +34,9 @@ use Rattle.dx_instance.proofs.LawFacts.{sorted_facts}
 use Rattle.dx_schema.specs.Tables.{model_tables, tables_of}
 use Rattle.dx_keys.specs.declared.answers.Clash.{Clash}
 use Rattle.dx_exchange.specs.declared.mode.Mode.{Mode}
-use Rattle.dx_exchange.specs.declared.mode.Mode.TheVariants.{Plain}
+use Rattle.dx_exchange.specs.declared.mode.Mode.TheVariants.{Core, Plain}
 use Rattle.dx_exchange.specs.declared.result.Exchange.{Exchange}
-use Rattle.dx_exchange.specs.Exchanging.{IsExchange}
+use Rattle.dx_exchange.specs.Exchanging.{IsCoreMode, IsExchange}
 use Rattle.dx_judge.specs.declared.verdict.Verdict.{Verdict}
 use Rattle.dx_compare.specs.declared.comparing.Comparison.{Comparison}
 use Rattle.dx_ports.specs.States.{OutputState}
@@ -53,6 +53,7 @@ use Rattle.clio_files.specs.Sheets.{AreTargetNulls, PrintedFile, file_of, fold_s
 use Rattle.clio_files.specs.Texts.{texts_told}
 use Rattle.clio_files.proofs.OneList.{table_files_are_one}
 use Rattle.clio_ending.specs.declared.ending.Answers.{Answers}
+use Rattle.clio_ending.specs.declared.ending.Done.{Done}
 use Rattle.clio_ending.specs.declared.ending.Done.TheVariants.{Answered, Compared, Demo, Exchanged, Judged, Shown}
 use Rattle.clio_ending.specs.declared.ending.Ending.{Ending}
 use Rattle.clio_ending.specs.declared.ending.Ending.TheVariants as endings
@@ -63,14 +64,15 @@ use Rattle.clio_steps.specs.Steps.{Program, exchange_input, wanted}
 use Rattle.clio_steps.specs.Outcomes.{HasNoSolutionIn, HasSolutionIn, IsClashIn, Writing, wrote_all, wrote_first}
 use Rattle.clio_top.specs.declared.command.Command.{Command}
 use Rattle.clio_top.specs.declared.command.Command.TheVariants.{Answering, Comparing, Demonstrating, Exchanging, Judging, Showing}
-use Rattle.clio_top.specs.Completing.{Completes, CompletesDemo, HasDone, HasNoFault}
+use Rattle.clio_top.specs.Completing.{Completes, CompletesDemo, HasDone, HasNoFault, HasPlanFor}
 use Rattle.clio_top.specs.Commands.{run_stages}
 use Rattle.clio_top.specs.Demo.{demo_text, demo_world}
 use Rattle.clio_top.specs.Leaving.{Leaves}
 use Rattle.clio_top.specs.Outcomes.{IsDemoIn, IsDoneIn, IsShownIn}
-use Rattle.clio_top.specs.Promises.{IsAnswered, IsClashOf, IsCompared, IsDemo, IsDone, IsJudged, IsShown}
+use Rattle.clio_top.specs.Promises.{AsAsked, IsAnswered, IsClashOf, IsCompared, IsDemo, IsDone, IsJudged, IsShown}
 use Rattle.clio_top.specs.SmallWorld.{SmallIsWritten, small_files, small_summary}
 use Rattle.clio_top.specs.Words.{Word, says}
+use Rattle.clio_top.proofs.Asked.{plan_asked}
 use Rattle.clio_top.proofs.Examples.{accepted, are_rows, emps, has_solution, has_text, is_source, mapping, person_determinations, persons, rows, rule, solution, solves, text, tuples, world}
 
 abbrev exchange : List Word
@@ -152,6 +154,72 @@ module _ (P : Program) (e : Exchange) (x : IsExchange P.apply (exchange_input Pl
 
   target_is : e.target ≡ target
   target_is = target_of e.target x.widths_are facts_are
+
+-- ---- in core mode it is the same target, with a fold that lists nothing
+
+abbrev person_of : Text → Value → Fact
+person_of name phone = record { table = 0; row = Const name ∷ phone ∷ [] }
+
+byte_of : Value → ℕ
+byte_of (Const (b ∷ bs)) = b
+byte_of _ = 0
+
+abbrev name_byte : Fact → ℕ
+name_byte f = byte_of (cell f.row 0)
+
+module _ (fold : List NullPair) (stay : (f : Fact) → f ∈ image fold made → f ∈ made) where
+  first_stays : given fold (null 0) ≡ Null (null 0)
+  unfolding byte_of
+  first_stays = of (stay (person_of (codes "ann") (given fold (null 0))) (here refl))
+    where
+      of : person_of (codes "ann") (given fold (null 0)) ∈ made → given fold (null 0) ≡ Null (null 0)
+      of (here e) = sym (ap (λ (f : Fact). cell f.row 1) e)
+      of (there (here e)) = let b : 98 ≡ 97 = ap name_byte e in absurd (omega (arith, b))
+      of (there (there m)) = elim m [ ]
+
+  second_stays : given fold (null 1) ≡ Null (null 1)
+  unfolding byte_of
+  second_stays = of (stay (person_of (codes "bob") (given fold (null 1))) (there (here refl)))
+    where
+      of : person_of (codes "bob") (given fold (null 1)) ∈ made → given fold (null 1) ≡ Null (null 1)
+      of (here e) = let b : 97 ≡ 98 = ap name_byte e in absurd (omega (arith, b))
+      of (there (here e)) = sym (ap (λ (f : Fact). cell f.row 1) e)
+      of (there (there m)) = elim m [ ]
+
+  each_stays : (n : NullId) → Null n ∈ values made → given fold n ≡ Null n
+  each_stays n (here e) = absurd (cc e)
+  each_stays n (there (here e)) = let same : null 0 ≡ n = cc e in subst (λ k. given fold k ≡ Null k) same first_stays
+  each_stays n (there (there (here e))) = absurd (cc e)
+  each_stays n (there (there (there (here e)))) = let same : null 1 ≡ n = cc e in subst (λ k. given fold k ≡ Null k) same second_stays
+  each_stays n (there (there (there (there m)))) = elim m [ ]
+
+moves_nothing : (m : List NullPair) → IsNullMap m → Each m (λ p. Null p.null ∈ values made) → ((n : NullId) → Null n ∈ values made → given m n ≡ Null n) → m ≡ []
+moves_nothing [] i l k = refl
+moves_nothing (p ∷ ps) i l k =
+    let first : given (p ∷ ps) p.null ≡ p.value = rw (same_null-refl p.null) refl in absurd (i.0 (sym first ∙ k p.null (l p (here refl))))
+
+module _ (P : Program) (e : Exchange) (x : IsExchange P.apply (exchange_input Core (mapping, rows)) e) where
+  core_matches : e.matches ≡ tuples ∷ []
+  core_matches = (rows_of_all P.apply (rule ∷ []) (facts rows) e.matches (tuples ∷ []) x.matches (are_rows P.apply, tt)).0
+
+  by_core : IsCoreMode schema (rule ∷ []) (tuples ∷ []) (pairs_of e.fold) (facts e.target)
+  by_core = subst (λ (r : Rows). IsCoreMode schema (rule ∷ []) r (pairs_of e.fold) (facts e.target)) core_matches x.by_mode
+
+  core_inside : facts e.target ⊆ made
+  core_inside = subst (λ (m : List NullPair). facts e.target ⊆ image m made) (lists_nothing by_core.key_map by_core.forced) by_core.inside
+
+  core_onto : image (pairs_of e.fold) made ⊆ facts e.target
+  core_onto = subst (λ (r : Rows). image (pairs_of e.fold) (canonical 0 (rule ∷ []) r) ⊆ facts e.target) core_matches x.folded.0
+
+  core_fold : pairs_of e.fold ≡ []
+  core_fold =
+      moves_nothing (pairs_of e.fold) x.null_map (subst (λ (r : Rows). Each (pairs_of e.fold) (λ p. Null p.null ∈ values (canonical 0 (rule ∷ []) r))) core_matches x.listed)
+      (each_stays (pairs_of e.fold) (λ f m. core_inside f (core_onto f m)))
+
+  core_target : e.target ≡ target
+  core_target =
+      target_of e.target x.widths_are
+      (one_fact_list (facts e.target) made (sorted_facts e.target x.ascend) (sorted_facts target target_ascends) (core_inside, subst (λ (ps : List NullPair). image ps made ⊆ facts e.target) core_fold core_onto))
 
 -- ---- the files
 
@@ -329,6 +397,14 @@ module _ (P : Program) (c : World) (Wrote : Writing) where
 
   not_compared : (k : Comparison) → ¬ (IsCompared P c exchange k Wrote)
   not_compared k (w, d) = absurd (cc (same_Some (Exchanging Plain false) Comparing w))
+
+-- nor is there a plan to show
+abbrev anyhow : Writing
+anyhow files said = Unit {0}
+
+no_plan_to_show : (P : Program) → ¬ (HasPlanFor P world exchange Shown)
+no_plan_to_show P (plan, passed, is) =
+    not_shown P world anyhow (subst (λ (d : Done). AsAsked P world exchange d anyhow) is (plan_asked P world exchange plan anyhow passed tt))
 
 -- after a write fault the first of its files stand there, as many as are told
 first_stand : (P : Program) (count : ℕ) (before after : OutputState) → Leaves P world exchange before after (endings.WriteFault count)
