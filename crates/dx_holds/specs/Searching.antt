@@ -52,7 +52,7 @@ pub record AreFoundCells (I : List TableRows) (n : ℕ) (found : List Found) : T
   pub below : Each found (λ b. b.variable < n)
 
 -- what was found has cells of the instance, and there is room for each existential variable of these cells
-pub record IsReadyFor (I : List TableRows) (cells : List Cell) (found : Vec Found Global) : Type 0 where
+pub record HasRoomForCells (I : List TableRows) (cells : List Cell) (found : Vec Found Global) : Type 0 where
   pub good : AreFoundCells I (vec_capacity found) found.items
   pub room : (v : ℕ) → Ex v ∈ cells → v < vec_capacity found
 

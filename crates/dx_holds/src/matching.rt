@@ -7,7 +7,7 @@ ghost use Rattle.dx_model.specs.declared.rules.Cell.TheVariants.{Ex, Var};
 ghost use Rattle.dx_model.specs.Rules.{cells_of};
 ghost use Rattle.dx_instance.specs.Stored.{rows_of};
 ghost use Rattle.dx_instance.specs.Places.{value_at};
-ghost use Rattle.dx_holds.specs.Searching.{AreFoundCells, ExtendsFound, HasCellAt, IsReadyFor, IsVariableCell, found_variables};
+ghost use Rattle.dx_holds.specs.Searching.{AreFoundCells, ExtendsFound, HasCellAt, HasRoomForCells, IsVariableCell, found_variables};
 ghost use Rattle.dx_holds.specs.Questions.{FindsRow, HasValue, IsNextMatch, NowhereFrom, SaysRow, Settles, TakesValue};
 
 use crate::question::Question;
@@ -101,7 +101,7 @@ fn meet_cell(
 ) -> bool
     requires known { cell.now ∈ cells_of question.now.atoms.now }
     requires stands { HasCellAt question.now.target.now table place column }
-    requires ready { IsReadyFor question.now.target.now (cell.now ∷ []) found.old }
+    requires ready { HasRoomForCells question.now.target.now (cell.now ∷ []) found.old }
     ensures capacity { vec_capacity found.new ≡ vec_capacity found.old }
     ensures cases { Settles result question.now.target.now found.old found.new
         (HasValue question.now cell.now (value_at question.now.target.now table place column)) }
@@ -126,7 +126,7 @@ fn meet_cell(
 fn meet_row(question: &Question, found: &mut Vec<Found>, atom: &Atom, place: u32) -> bool
     requires atom { atom.now ∈ question.now.atoms.now }
     requires place { place < length (rows_of question.now.target.now atom.now.table) }
-    requires ready { IsReadyFor question.now.target.now atom.now.cells found.old }
+    requires ready { HasRoomForCells question.now.target.now atom.now.cells found.old }
     ensures capacity { vec_capacity found.new ≡ vec_capacity found.old }
     ensures cases { Settles result question.now.target.now found.old found.new (SaysRow question.now atom.now place) }
 {
@@ -184,7 +184,7 @@ pub(crate) fn next_place(
     from: u32,
 ) -> Option<u32>
     requires atom { atom.now ∈ question.now.atoms.now }
-    requires ready { IsReadyFor question.now.target.now atom.now.cells found.old }
+    requires ready { HasRoomForCells question.now.target.now atom.now.cells found.old }
     ensures capacity { vec_capacity found.new ≡ vec_capacity found.old }
     ensures small { IfSome result (λ p. p + 1 < 2 ^ 32) }
     ensures cases { MatchOption result
