@@ -1,5 +1,5 @@
 -- The least covers of places, by numbers.
-use Rattle.std.specs.Prelude.{◌≡◌, ℕ, ◌<◌, Option, None, List, [], map, length, nat_eq, slice_index_or}
+use Rattle.std.specs.Prelude.{◌≡◌, ℕ, ◌<◌, ◌^◌, Option, None, List, [], map, length, nat_eq, slice_index_or}
 use Rattle.std.specs.Option.{option_map, option_or}
 use Rattle.std.specs.List.{AllZip, find}
 use Rattle.std.specs.Cmp.Lexicographic.{pointwise}
@@ -17,10 +17,12 @@ use Rattle.dx_model.specs.Values.{Rows, Tuple}
 use Rattle.dx_model.specs.Covers.{agrees, below, image_of, least_cover, rule_at, used_maps, cell_value_at}
 use Rattle.dx_instance.specs.Cells.{NumberTable, numbers_at}
 use Rattle.dx_instance.specs.Shown.{NumberedInstance, numbers_of_table}
+use Rattle.dx_cover.specs.Covering.{covers_of}
 use Rattle.dx_cover_fold.specs.declared.found.Found.{Found}
 use Rattle.dx_cover_fold.specs.declared.index.Index.{Index}
 use Rattle.dx_cover_fold.specs.declared.number_at.NumberAt.{NumberAt}
 use Rattle.dx_cover_fold.specs.Codes.{IsPlanned, numbers_by}
+use Rattle.dx_cover_fold.specs.Matched.{matched_tuples}
 
 -- the row that cells say, with the texts of the variables, at a place of a rule
 abbrev pub row_said : List ℕ → Tuple → ℕ → ℕ → List Cell → List Value
@@ -69,6 +71,17 @@ own_rows R rows i k = map (λ x. cell_value_at R rows i k (Var x)) (exported (ru
 abbrev pub AreOwn : List Rule → NumberedInstance → ℕ → List NumberAt → Type 0
 AreOwn R m i own =
     AllZip (IsPlanned m.symbols (exported (rule_at R i)) (numbers_of_table m.tables i).width) (variable_cells (rule_at R i)) own
+
+-- the covers are those between the rules, which can be counted, and each rule has a table of matches
+pub record AreOfRules (R : List Rule) (maps : List (List (List CellMap))) (m : NumberedInstance) : Type 0 where
+  pub covers : maps ≡ covers_of R
+  pub few : length R < 2 ^ 32
+  pub one : length m.tables ≡ length R
+
+-- the plan is that of the exported variables of rule i, and something or nothing is known of each of its places
+pub record IsBegun (R : List Rule) (m : NumberedInstance) (i : ℕ) (plan : List NumberAt) (known : List (Option Found)) : Type 0 where
+  pub own : AreOwn R m i plan
+  pub many : length known ≡ length (slice_index_or (matched_tuples m) i [])
 
 -- what is known of a place, or else what the index gives for the numbers of its row
 abbrev pub or_first : ℕ → ℕ → Index → List NumberAt → Option Found → List ℕ → Option Found

@@ -1,5 +1,5 @@
 // The least covers of the places of a rule.
-ghost use Rattle.std.specs.Prelude.{◌≡◌, ◌<◌, ◌^◌, ◌++◌, IfOk, List, ℕ, None, [], flat_map, length, slice_index_or};
+ghost use Rattle.std.specs.Prelude.{◌≡◌, ◌<◌, ◌^◌, ◌++◌, IfOk, List, ℕ, None, flat_map, length, slice_index_or};
 ghost use Rattle.std.specs.List.{AllZip};
 ghost use Rattle.dx_ports.specs.Members.{Each};
 ghost use Rattle.dx_model.specs.declared.covers.Cover.{Cover};
@@ -9,8 +9,8 @@ ghost use Rattle.dx_cover_fold.specs.Matched.{matched_tuples};
 ghost use Rattle.dx_instance.specs.Shown.{numbers_of_table};
 ghost use Rattle.dx_cover.specs.Covering.{covers_of};
 ghost use Rattle.dx_cover_fold.specs.Codes.{RowHasColumn, IsPlanned};
-ghost use Rattle.dx_cover_fold.specs.Found.{AreLeast, AreOrFirsts, AreOwn, FindsAmong, IndexesCells, images_by, no_map, or_first as first_or};
-ghost use Rattle.dx_cover_fold.specs.Found.{variable_cells};
+ghost use Rattle.dx_cover_fold.specs.Found.{AreLeast, AreOfRules, AreOrFirsts, AreOwn, FindsAmong, IndexesCells, IsBegun, images_by};
+ghost use Rattle.dx_cover_fold.specs.Found.{no_map, or_first as first_or, variable_cells};
 
 use crate::found::Found;
 use crate::images::{as_cells, images_of};
@@ -125,8 +125,7 @@ impl<'a, 'm> Covering<'a, 'm> {
         requires to { other < length self.now.rules.now }
         requires number { slice_index_or (used_maps (rule_at self.now.rules.now self.now.rule)
             (rule_at self.now.rules.now other)) number no_map ≡ map.now }
-        requires own { AreOwn self.now.rules.now self.now.matches.now self.now.rule self.now.own.items }
-        requires many { length known.now ≡ length (slice_index_or (matched_tuples self.now.matches.now) self.now.rule []) }
+        requires begun { IsBegun self.now.rules.now self.now.matches.now self.now.rule self.now.own.items known.now }
         ensures many { IfOk result (λ v. length v.items ≡ length known.now) }
         ensures finds { IfOk result (λ v. (C : List Cover) → FindsAmong self.now.rules.now
             (matched_tuples self.now.matches.now) self.now.rule C known.now
@@ -151,8 +150,7 @@ impl<'a, 'm> Covering<'a, 'm> {
     ) -> Result<Vec<Option<Found>>, AllocError>
         requires covers { self.now.covers.now ≡ covers_of self.now.rules.now }
         requires to { other < length self.now.rules.now }
-        requires own { AreOwn self.now.rules.now self.now.matches.now self.now.rule self.now.own.items }
-        requires many { length known.items ≡ length (slice_index_or (matched_tuples self.now.matches.now) self.now.rule []) }
+        requires begun { IsBegun self.now.rules.now self.now.matches.now self.now.rule self.now.own.items known.items }
         ensures many { IfOk result (λ v. length v.items ≡ length known.items) }
         ensures finds { IfOk result (λ v. (C : List Cover) → FindsAmong self.now.rules.now
             (matched_tuples self.now.matches.now) self.now.rule C known.items
@@ -236,10 +234,8 @@ pub(crate) fn least_covers(
     matches: &Matched<'_>,
     rule: u32,
 ) -> Result<Vec<Option<Found>>, AllocError>
-    requires covers { covers.now ≡ covers_of rules.now }
-    requires few { length rules.now < 2 ^ 32 }
+    requires rules { AreOfRules rules.now covers.now matches.now }
     requires from { rule < length rules.now }
-    requires one { length matches.now.tables ≡ length rules.now }
     ensures { IfOk result (λ v. AreLeast rules.now (matched_tuples matches.now) rule v.items) }
 {
     let covering = Covering {

@@ -8,7 +8,7 @@ ghost use Rattle.dx_model.specs.Covers.{IsPlace, folded, least_cover, value_unde
 ghost use Rattle.dx_cover_fold.specs.Matched.{matched_tuples};
 ghost use Rattle.dx_joins.specs.Shown.{AreTexts};
 ghost use Rattle.dx_cover.specs.Covering.{covers_of};
-ghost use Rattle.dx_cover_fold.specs.Found.{AllLeast, cover_of};
+ghost use Rattle.dx_cover_fold.specs.Found.{AllLeast, AreOfRules, cover_of};
 ghost use Rattle.dx_cover_fold.specs.Folding.{IsCoverFold};
 ghost use Rattle.dx_cover_fold.specs.Matched.{tuples_of};
 
@@ -41,9 +41,7 @@ fn all_covers(
     covers: &Covers,
     matches: &Matched<'_>,
 ) -> Result<Vec<Items<Option<Found>>>, AllocError>
-    requires covers { covers.now ≡ covers_of rules.now }
-    requires few { length rules.now < 2 ^ 32 }
-    requires one { length matches.now.tables ≡ length rules.now }
+    requires { AreOfRules rules.now covers.now matches.now }
     ensures { IfOk result (λ v. AllLeast rules.now (matched_tuples matches.now) v.items (length rules.now)) }
 {
     let mut all = Vec::new(alloc);
@@ -145,9 +143,7 @@ fn fold_of_matched(
     covers: &Covers,
     matches: &Matched<'_>,
 ) -> Result<NullMap, AllocError>
-    requires covers { covers.now ≡ covers_of rules.now }
-    requires few { length rules.now < 2 ^ 32 }
-    requires one { length matches.now.tables ≡ length rules.now }
+    requires { AreOfRules rules.now covers.now matches.now }
     ensures { IfOk result (IsCoverFold rules.now (matched_tuples matches.now)) }
 {
     let fold = Fold {

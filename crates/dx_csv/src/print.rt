@@ -1,6 +1,5 @@
 // The text of records and of tables.
 ghost use Rattle.std.specs.Prelude.{◌≡◌, ◌<◌, ◌++◌, ◌∷◌, [], ℕ, List, IfOk, OnOk, length, map};
-ghost use Rattle.dx_model.specs.Values.{RowsAscend};
 ghost use Rattle.dx_instance.specs.Shown.{AreBelow, shown_row};
 ghost use Rattle.dx_instance.specs.Stored.{rows_of, table_at};
 ghost use Rattle.dx_instance.specs.ValueText.{value_text_of};
@@ -132,28 +131,12 @@ pub fn print_table_bytes(
     requires no_mark { HasNoMark columns.now }
     ensures text { IfOk result (λ bytes. IsTableText columns.now (rows_of instance.now table) bytes.items) }
 {
-    if instance.is_ascending(table) {
-        print_ascending(alloc, columns, instance, table)
-    } else {
-        print_sorted(alloc, columns, instance, table)
-    }
-}
-
-// Prints a table whose rows ascend.
-fn print_ascending(
-    alloc: Global,
-    columns: &[Text],
-    instance: &Instance,
-    table: u32,
-) -> Result<Vec<u8>, AllocError>
-    requires table { table < length instance.now }
-    requires width { length columns.now ≡ (table_at instance.now table).width }
-    requires no_mark { HasNoMark columns.now }
-    requires ascend { RowsAscend (rows_of instance.now table) }
-    ensures text { IfOk result (λ bytes. IsTableText columns.now (rows_of instance.now table) bytes.items) }
-{
+    // What holds of the tables of each instance.
     prove!(table < instance.tables());
-    lines_of(alloc, columns, instance, table)
+    if instance.is_ascending(table) {
+        return lines_of(alloc, columns, instance, table);
+    }
+    print_sorted(alloc, columns, instance, table)
 }
 
 // Prints a table, its rows sorted first.

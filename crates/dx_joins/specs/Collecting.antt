@@ -15,6 +15,11 @@ pub record CollectsRows (old new : Collection) (P : List ℕ → Type 0) : Type 
   pub most : new.most ≡ old.most
   pub exact : (t : List ℕ) → (t ∈ new.rows) ↔ ((t ∈ old.rows) ⊎ P t)
 
+-- the places are within so many numbers, and the collection's rows have a number for each place
+pub record TakesPlaces (numbers : ℕ) (places : List ℕ) (out : Collection) : Type 0 where
+  pub within : Each places (λ i. i < numbers)
+  pub width : out.width ≡ length places
+
 -- more than so many different rows have P
 pub record MoreThan (most : ℕ) (P : List ℕ → Type 0) : Type 0 where
   pub some : List (List ℕ)

@@ -1,12 +1,17 @@
 -- Derived variables of a row.
 use Rattle.std.specs.Prelude.{◌≡◌, ◌⊎◌, ℕ, Bool, List, [], ◌++◌, length, map, slice_index_or}
 use Rattle.std.specs.List.{range_with_len}
-use Rattle.dx_ports.specs.Members.{◌∈◌}
+use Rattle.dx_ports.specs.Members.{◌∈◌, ◌⊆◌, Each}
 use Rattle.dx_ports.specs.Texts.{Text}
 use Rattle.dx_model.specs.declared.values.Value.{Value}
 use Rattle.dx_model.specs.declared.rules.Derived.{Derived}
 use Rattle.dx_model.specs.Values.{Conversions, Tuple}
 use Rattle.dx_model.specs.Rules.{text_of}
+use Rattle.dx_funcs.specs.declared.host.Host.{Host}
+use Rattle.dx_funcs.specs.Offers.{IsListed}
+use Rattle.dx_funcs.specs.Serving.{Calls, Serves, offered}
+use Rattle.dx_instance.specs.Cells.{NumberTable}
+use Rattle.dx_instance.specs.Numbers.{AreDistinctValues}
 use Rattle.dx_joins.specs.Collecting.{Collection, Collects}
 use Rattle.dx_joins.specs.Shown.{AreTexts, texts_of}
 
@@ -21,6 +26,24 @@ derived_values convert names derived t = map (λ (e : Derived). derived_value co
 -- a tuple, and after it the texts of derived variables
 abbrev pub with_derived : Conversions → List ℕ → List Derived → Tuple → Tuple
 with_derived convert names derived t = t ++ derived_values convert names derived t
+
+-- the host computes the derived variable of these variables: its conversion is listed, and takes some of them
+pub record IsComputed {F M : Type 0} (calls : Calls F) (apply : Conversions) (h : Host F M) (names : List ℕ) (e : Derived) : Type 0 where
+  pub serves : Serves calls apply h
+  pub listed : IsListed (offered h) e.code (length e.args)
+  pub known : e.args ⊆ names
+
+-- the symbols are distinct, and the row has so many numbers of theirs, each of which stands for a text
+pub record IsTextRow (symbols : List Value) (columns : ℕ) (row : List ℕ) : Type 0 where
+  pub apart : AreDistinctValues symbols
+  pub many : length row ≡ columns
+  pub texts : AreTexts symbols row
+
+-- the same for the rows of a table
+pub record HasTextRows (symbols : List Value) (columns : ℕ) (table : NumberTable) : Type 0 where
+  pub apart : AreDistinctValues symbols
+  pub width : table.width ≡ columns
+  pub texts : Each table.rows (AreTexts symbols)
 
 -- the variable is an argument of a derived variable, or is shown
 abbrev pub IsVariableWanted : List Derived → List ℕ → ℕ → Type 0

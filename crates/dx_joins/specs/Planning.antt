@@ -1,5 +1,5 @@
 -- How a row of a table of partial matches and a row of a pattern's table are put together.
-use Rattle.std.specs.Prelude.{◌≡◌, ◌↔◌, ◌⊎◌, ◌<◌, ◌≤◌, ◌+◌, ℕ, suc, cond, eqb, Bool, List, [], ◌∷◌, ◌++◌, length, map, slice_index}
+use Rattle.std.specs.Prelude.{◌≡◌, ◌↔◌, ◌⊎◌, ◌<◌, ◌≤◌, ◌+◌, ◌^◌, ℕ, suc, cond, eqb, Bool, List, [], ◌∷◌, ◌++◌, length, map, slice_index}
 use Rattle.dx_ports.specs.Members.{◌∈◌, ◌⊆◌, Distinct, Each}
 use Rattle.dx_instance.specs.Cells.{NumberTable}
 use Rattle.dx_instance.specs.Shown.{numbers_of_table}
@@ -7,7 +7,7 @@ use Rattle.dx_joins.specs.declared.index.Index.{Index}
 use Rattle.dx_joins.specs.declared.plan.Plan.{Plan}
 use Rattle.dx_joins.specs.declared.pattern.Pattern.{Pattern}
 use Rattle.dx_joins.specs.declared.premise.Partial.{Partial}
-use Rattle.dx_joins.specs.Collecting.{AreThose}
+use Rattle.dx_joins.specs.Collecting.{AreThose, Collection}
 use Rattle.dx_joins.specs.Looking.{IsBucketIndex, keys_of}
 use Rattle.dx_joins.specs.Joining.{AreMarked, IsJoinOf, MatchesPatterns, AreRowsWith, variables_of_patterns}
 
@@ -25,6 +25,12 @@ pub record IsJoinPlan (p : Plan) : Type 0 where
   pub left_within : Each p.by_left.items (λ i. i < length p.left.items)
   pub right_within : Each p.by_right.items (λ i. i < length p.right.items)
   pub shared : map (slice_index p.left.items) p.by_left.items ≡ map (slice_index p.right.items) p.by_right.items
+
+-- the plan is for rows of so many numbers on the left, and the collection takes what comes of them
+pub record CanJoin (p : Plan) (numbers : ℕ) (out : Collection) : Type 0 where
+  pub plan : IsJoinPlan p
+  pub left : numbers ≡ length p.left.items
+  pub width : out.width ≡ length p.kept.items
 
 -- t comes of r and the marked row s
 pub record Pairs (p : Plan) (marks : List Bool) (r s t : List ℕ) : Type 0 where
@@ -55,6 +61,21 @@ IsVariableNeeded later wanted x = (x ∈ variables_of_patterns later) ⊎ (x ∈
 pub record FitPattern (tables : List NumberTable) (p : Pattern) : Type 0 where
   pub table : p.table < length tables
   pub width : (numbers_of_table tables p.table).width ≡ length p.variables.items
+
+-- the patterns fit the tables, and their variables can be counted
+pub record AreJoinable (tables : List NumberTable) (patterns : List Pattern) : Type 0 where
+  pub fit : Each patterns (FitPattern tables)
+  pub few : length (variables_of_patterns patterns) < 2 ^ 32
+
+-- the variables are some of these, and can be counted
+pub record AreFewAmong (names variables : List ℕ) : Type 0 where
+  pub known : variables ⊆ names
+  pub few : length variables < 2 ^ 32
+
+-- the rows have a number for each variable, of which none stands twice
+pub record IsPartialTable (p : Partial) : Type 0 where
+  pub once : Distinct p.variables.items
+  pub wide : p.rows.width ≡ length p.variables.items
 
 -- t comes of a partial match and a row of the pattern's table
 abbrev pub StepsTo : List NumberTable → List Bool → Partial → Pattern → List ℕ → List ℕ → Type 0

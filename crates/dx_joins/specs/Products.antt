@@ -1,6 +1,6 @@
 -- Patterns that share no variable, and the products of their rows.
-use Rattle.std.specs.Prelude.{◌≡◌, ℕ, Bool, Option, List, ◌++◌, length, IfSome, MatchOption}
-use Rattle.dx_ports.specs.Members.{◌∈◌, ◌⊆◌, Distinct}
+use Rattle.std.specs.Prelude.{◌≡◌, ◌<◌, ◌^◌, ℕ, Bool, Option, List, ◌++◌, length, IfSome, MatchOption}
+use Rattle.dx_ports.specs.Members.{◌∈◌, ◌⊆◌, Distinct, Each}
 use Rattle.dx_instance.specs.Cells.{NumberTable}
 use Rattle.dx_joins.specs.declared.pattern.Pattern.{Pattern}
 use Rattle.dx_joins.specs.declared.parts.Part.{Part}
@@ -36,6 +36,14 @@ pub record IsPartOf (tables : List NumberTable) (marks : List Bool) (most : ℕ)
 -- the part's rows, if it has them, have a number for each variable
 abbrev pub IsWide : Part → Type 0
 IsWide p = IfSome p.rows (λ r. r.width ≡ length p.variables.items)
+
+-- the part is of some of the shown variables, which can be counted, each once, and of none that the patterns have
+pub record StandsApart (patterns : List Pattern) (shown : List ℕ) (p : Part) : Type 0 where
+  pub wide : IsWide p
+  pub once : Distinct p.variables.items
+  pub wanted : p.variables.items ⊆ shown
+  pub few : length shown < 2 ^ 32
+  pub apart : Each p.variables.items (λ x. ¬ (x ∈ variables_of_patterns patterns))
 
 -- whatever patterns two parts are of, if those share no variable, the rows are what all of them give to the variables
 abbrev pub IsProduct : ℕ → Part → Part → List ℕ → Option NumberTable → Type 0

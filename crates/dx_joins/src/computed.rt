@@ -2,16 +2,13 @@
 ghost use Rattle.std.specs.Prelude.{◌≡◌, ◌↔◌, ◌⊎◌, ◌<◌, ◌≤◌, ◌+◌, ◌-◌, ◌^◌, ◌++◌, ◌∷◌, [], ℕ, List, IfOk, OnOk, IsTrue, MatchOption, length, map};
 ghost use Rattle.dx_ports.specs.Members.{◌∈◌, ◌⊆◌, Distinct, Each};
 ghost use Rattle.dx_model.specs.declared.values.Value.TheVariants.{Const};
-ghost use Rattle.dx_model.specs.declared.rules.Derived.{Derived as AnyDerived};
 ghost use Rattle.dx_model.specs.Values.{Tuple as AnyTuple};
 ghost use Rattle.dx_model.specs.Rules.{text_of};
-ghost use Rattle.dx_funcs.specs.Offers.{IsListed};
-ghost use Rattle.dx_funcs.specs.Serving.{Serves, offered};
 ghost use Rattle.dx_instance.specs.Numbers.{AreDistinctValues, Extends, value_of};
 ghost use Rattle.dx_instance.specs.Shown.{AreBelow};
 ghost use Rattle.dx_instance.specs.Ranks.{text_of_value};
 ghost use Rattle.dx_joins.specs.Shown.{AreTexts, texts_of};
-ghost use Rattle.dx_joins.specs.Derivations.{derived_value, with_derived};
+ghost use Rattle.dx_joins.specs.Derivations.{IsComputed, IsTextRow, derived_value, with_derived};
 
 use crate::plan::place;
 use dx_funcs::{Host, Meaning};
@@ -69,12 +66,8 @@ fn derived_number<F: Fn(u32, &Items<Text>) -> Result<Text, AllocError>, M: Meani
     symbols: &mut Symbols,
     host: &Host<F, M>,
 ) -> Result<u32, AllocError>
-    requires serves { Serves F.Fn M.apply host.now }
-    requires listed { IsListed (offered host.now) derived.now.code (length derived.now.args) }
-    requires known { derived.now.args ⊆ names.now }
-    requires many { length row.now ≡ length names.now }
-    requires texts { AreTexts symbols.old row.now }
-    requires apart { AreDistinctValues symbols.old }
+    requires computed { IsComputed F.Fn M.apply host.now names.now derived.now }
+    requires row { IsTextRow symbols.old (length names.now) row.now }
     ensures grows { Extends symbols.old symbols.new }
     ensures apart { AreDistinctValues symbols.new }
     ensures within { IfOk result (λ n. n < length symbols.new) }
@@ -97,12 +90,8 @@ impl<'a> Derivation<'a> {
         host: &Host<F, M>,
         buffer: &mut Vec<u32>,
     ) -> Result<(), AllocError>
-        requires serves { Serves F.Fn M.apply host.now }
-        requires listed { Each self.now.derived.now (λ (e : AnyDerived). IsListed (offered host.now) e.code (length e.args)) }
-        requires known { Each self.now.derived.now (λ (e : AnyDerived). e.args ⊆ self.now.wanted.now) }
-        requires many { length row.now ≡ length self.now.wanted.now }
-        requires texts { AreTexts symbols.old row.now }
-        requires apart { AreDistinctValues symbols.old }
+        requires computed { Each self.now.derived.now (IsComputed F.Fn M.apply host.now self.now.wanted.now) }
+        requires row { IsTextRow symbols.old (length self.now.wanted.now) row.now }
         ensures grows { Extends symbols.old symbols.new }
         ensures apart { AreDistinctValues symbols.new }
         ensures texts { OnOk result (AreTexts symbols.new buffer.new.items) }

@@ -3,7 +3,7 @@ ghost use Rattle.std.specs.Prelude.{◌≡◌, ◌↔◌, ◌<◌, ◌+◌, ◌+
 ghost use Rattle.dx_ports.specs.Members.{◌∈◌, Each};
 ghost use Rattle.dx_instance.specs.Shown.{AreBelow, numbers_of_table};
 ghost use Rattle.dx_joins.specs.Collecting.{Collects};
-ghost use Rattle.dx_joins.specs.Planning.{IndexesTable, IsJoinPlan, Pairs, PairsIn, PairsOf};
+ghost use Rattle.dx_joins.specs.Planning.{CanJoin, IndexesTable, IsJoinPlan, Pairs, PairsIn, PairsOf};
 
 use crate::collected::Collected;
 use crate::index::{Index, key_at};
@@ -33,11 +33,9 @@ impl<'a, 'n> Pairing<'a, 'n> {
         buffer: &mut Vec<u32>,
         out: &mut Collected,
     ) -> Result<bool, AllocError>
-        requires plan { IsJoinPlan self.now.plan.now }
-        requires left { length left.now ≡ length self.now.plan.now.left.items }
+        requires ready { CanJoin self.now.plan.now (length left.now) out.old }
         requires right { length right.now ≡ length self.now.plan.now.right.items }
         requires below { AreBelow (length self.now.marks.now) right.now }
-        requires width { out.old.width ≡ length self.now.plan.now.kept.items }
         ensures { IfOk result (λ full. Collects full out.old out.new (Pairs self.now.plan.now self.now.marks.now left.now right.now)) }
     {
         if !are_marked(self.marks, right) {
@@ -58,10 +56,8 @@ impl<'a, 'n> Pairing<'a, 'n> {
         buffer: &mut Vec<u32>,
         out: &mut Collected,
     ) -> Result<bool, AllocError>
-        requires plan { IsJoinPlan self.now.plan.now }
+        requires ready { CanJoin self.now.plan.now (length left.now) out.old }
         requires index { IndexesTable self.now.plan.now self.now.source.now.tables self.now.table index.now }
-        requires left { length left.now ≡ length self.now.plan.now.left.items }
-        requires width { out.old.width ≡ length self.now.plan.now.kept.items }
         ensures { IfOk result (λ full. Collects full out.old out.new
             (PairsIn self.now.plan.now self.now.marks.now self.now.source.now.tables self.now.table left.now)) }
     {
@@ -84,9 +80,7 @@ impl<'a, 'n> Pairing<'a, 'n> {
         buffer: &mut Vec<u32>,
         out: &mut Collected,
     ) -> Result<bool, AllocError>
-        requires plan { IsJoinPlan self.now.plan.now }
-        requires left { length left.now ≡ length self.now.plan.now.left.items }
-        requires width { out.old.width ≡ length self.now.plan.now.kept.items }
+        requires { CanJoin self.now.plan.now (length left.now) out.old }
         ensures { IfOk result (λ full. Collects full out.old out.new
             (PairsIn self.now.plan.now self.now.marks.now self.now.source.now.tables self.now.table left.now)) }
     {
@@ -118,10 +112,8 @@ impl<'a, 'n> Pairing<'a, 'n> {
         buffer: &mut Vec<u32>,
         out: &mut Collected,
     ) -> Result<bool, AllocError>
-        requires plan { IsJoinPlan self.now.plan.now }
+        requires ready { CanJoin self.now.plan.now (length left.now) out.old }
         requires index { IfSome index.now (IndexesTable self.now.plan.now self.now.source.now.tables self.now.table) }
-        requires left { length left.now ≡ length self.now.plan.now.left.items }
-        requires width { out.old.width ≡ length self.now.plan.now.kept.items }
         ensures { IfOk result (λ full. Collects full out.old out.new
             (PairsIn self.now.plan.now self.now.marks.now self.now.source.now.tables self.now.table left.now)) }
     {
@@ -142,9 +134,7 @@ impl<'a, 'n> Pairing<'a, 'n> {
         rows: &Rows,
         out: &mut Collected,
     ) -> Result<bool, AllocError>
-        requires plan { IsJoinPlan self.now.plan.now }
-        requires left { rows.now.width ≡ length self.now.plan.now.left.items }
-        requires width { out.old.width ≡ length self.now.plan.now.kept.items }
+        requires { CanJoin self.now.plan.now rows.now.width out.old }
         ensures { IfOk result (λ full. Collects full out.old out.new
             (PairsOf self.now.plan.now self.now.marks.now self.now.source.now.tables self.now.table rows.now.rows)) }
     {

@@ -1,9 +1,9 @@
 // The order in which patterns are joined.
-ghost use Rattle.std.specs.Prelude.{◌≡◌, ◌↔◌, ◌<◌, ◌≤◌, ◌^◌, [], IfOk, IfSome, IsPermutation, List, MatchOption, length, ℕ};
-ghost use Rattle.dx_ports.specs.Members.{◌∈◌, ◌⊆◌, Each};
+ghost use Rattle.std.specs.Prelude.{◌≡◌, ◌↔◌, ◌<◌, ◌≤◌, [], IfOk, IfSome, IsPermutation, List, MatchOption, length, ℕ};
+ghost use Rattle.dx_ports.specs.Members.{◌∈◌, Each};
 ghost use Rattle.dx_joins.specs.Collecting.{MoreThan};
 ghost use Rattle.dx_joins.specs.Joining.{variables_of_patterns};
-ghost use Rattle.dx_joins.specs.Planning.{FitPattern, IsMatchRow, AreMatchRows};
+ghost use Rattle.dx_joins.specs.Planning.{AreFewAmong, AreJoinable, FitPattern, IsMatchRow, AreMatchRows};
 
 use crate::known::Known;
 use crate::marked::Marked;
@@ -75,10 +75,8 @@ pub(crate) fn ordered_rows(
     most: u64,
 ) -> Result<Option<Rows>, AllocError>
     requires some { ¬ (patterns.items ≡ []) }
-    requires fit { Each patterns.items (FitPattern marked.now.source.now.tables) }
-    requires few { length (variables_of_patterns patterns.items) < 2 ^ 32 }
-    requires shown { shown.now ⊆ variables_of_patterns patterns.items }
-    requires wide { length shown.now < 2 ^ 32 }
+    requires joinable { AreJoinable marked.now.source.now.tables patterns.items }
+    requires shown { AreFewAmong (variables_of_patterns patterns.items) shown.now }
     ensures rows { IfOk result (λ o. MatchOption o
         (MoreThan most (IsMatchRow marked.now.source.now.tables marked.now.marks.now patterns.items shown.now))
         (λ r. AreMatchRows marked.now.source.now.tables marked.now.marks.now patterns.items shown.now r)) }

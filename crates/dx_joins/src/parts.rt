@@ -1,10 +1,9 @@
 // Patterns in parts that share no variable. Each part is joined by itself, and the rows of all of them are put together.
 ghost use Rattle.std.specs.Prelude.{◌≡◌, ◌<◌, ◌≤◌, ◌^◌, ◌++◌, ◌∷◌, [], ℕ, List, Some, IfOk, IfSome, MatchOption, length};
-ghost use Rattle.dx_ports.specs.Members.{◌∈◌, ◌⊆◌, Distinct, Each};
 ghost use Rattle.dx_joins.specs.Collecting.{MoreThan};
 ghost use Rattle.dx_joins.specs.Joining.{variables_of_patterns};
-ghost use Rattle.dx_joins.specs.Planning.{FitPattern, IsMatchRow, AreMatchRows};
-ghost use Rattle.dx_joins.specs.Products.{IsPartOf, IsProduct, IsWide, PartGrows};
+ghost use Rattle.dx_joins.specs.Planning.{AreFewAmong, AreJoinable, IsMatchRow, AreMatchRows};
+ghost use Rattle.dx_joins.specs.Products.{IsPartOf, IsProduct, IsWide, PartGrows, StandsApart};
 
 use crate::apart::are_apart;
 use crate::marked::Marked;
@@ -43,8 +42,7 @@ fn part_of(
     most: u64,
 ) -> Result<Part, AllocError>
     requires some { ¬ (patterns.now ≡ []) }
-    requires fit { Each patterns.now (FitPattern marked.now.source.now.tables) }
-    requires few { length (variables_of_patterns patterns.now) < 2 ^ 32 }
+    requires joinable { AreJoinable marked.now.source.now.tables patterns.now }
     requires wide { length shown.now < 2 ^ 32 }
     ensures { IfOk result (IsPartOf marked.now.source.now.tables marked.now.marks.now most patterns.now shown.now) }
 {
@@ -73,8 +71,7 @@ fn product(
 ) -> Result<Option<Rows>, AllocError>
     requires left { IsWide left.now }
     requires right { IsWide right.now }
-    requires known { kept.now ⊆ (left.now.variables.items ++ right.now.variables.items) }
-    requires few { length kept.now < 2 ^ 32 }
+    requires kept { AreFewAmong (left.now.variables.items ++ right.now.variables.items) kept.now }
     ensures rows { IfOk result (IsProduct most left.now right.now kept.now) }
     ensures within { IfOk result (λ o. IfSome o (λ r. length r.rows ≤ most)) }
 {
@@ -102,14 +99,9 @@ fn with_part(
     marked: &Marked,
     most: u64,
 ) -> Result<Part, AllocError>
-    requires whole { IsWide whole.now }
-    requires once { Distinct whole.now.variables.items }
-    requires wanted { whole.now.variables.items ⊆ shown.now }
-    requires apart { Each whole.now.variables.items (λ x. ¬ (x ∈ variables_of_patterns patterns.now)) }
+    requires whole { StandsApart patterns.now shown.now whole.now }
     requires some { ¬ (patterns.now ≡ []) }
-    requires fit { Each patterns.now (FitPattern marked.now.source.now.tables) }
-    requires few { length (variables_of_patterns patterns.now) < 2 ^ 32 }
-    requires wide { length shown.now < 2 ^ 32 }
+    requires joinable { AreJoinable marked.now.source.now.tables patterns.now }
     ensures { IfOk result (PartGrows marked.now.source.now.tables marked.now.marks.now most patterns.now shown.now whole.now) }
 {
     let part = part_of(alloc, patterns, shown, marked, most)?;
@@ -132,10 +124,8 @@ pub(crate) fn parts_rows(
     most: u64,
 ) -> Result<Option<Rows>, AllocError>
     requires some { ¬ (patterns.now ≡ []) }
-    requires fit { Each patterns.now (FitPattern marked.now.source.now.tables) }
-    requires few { length (variables_of_patterns patterns.now) < 2 ^ 32 }
-    requires shown { shown.now ⊆ variables_of_patterns patterns.now }
-    requires wide { length shown.now < 2 ^ 32 }
+    requires joinable { AreJoinable marked.now.source.now.tables patterns.now }
+    requires shown { AreFewAmong (variables_of_patterns patterns.now) shown.now }
     ensures rows { IfOk result (λ o. MatchOption o
         (MoreThan most (IsMatchRow marked.now.source.now.tables marked.now.marks.now patterns.now shown.now))
         (λ r. AreMatchRows marked.now.source.now.tables marked.now.marks.now patterns.now shown.now r)) }

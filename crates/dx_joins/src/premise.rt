@@ -4,7 +4,8 @@ ghost use Rattle.dx_ports.specs.Members.{◌∈◌, ◌⊆◌, Distinct, Each};
 ghost use Rattle.dx_instance.specs.Shown.{numbers_of_table};
 ghost use Rattle.dx_joins.specs.Collecting.{AreThose, MoreThan};
 ghost use Rattle.dx_joins.specs.Joining.{MatchesPatterns, variables_of_patterns};
-ghost use Rattle.dx_joins.specs.Planning.{AddsOnce, CarriesOn, FitPattern, IsVariableNeeded, IsMatchRow, StepsTo, AreMatchRows};
+ghost use Rattle.dx_joins.specs.Planning.{AddsOnce, AreFewAmong, AreJoinable, CarriesOn, FitPattern, IsVariableNeeded, IsMatchRow};
+ghost use Rattle.dx_joins.specs.Planning.{IsPartialTable, StepsTo, AreMatchRows};
 
 use crate::collected::Collected;
 use crate::join::Pairing;
@@ -86,10 +87,8 @@ fn step(
     marked: &Marked,
     most: u64,
 ) -> Result<Option<Rows>, AllocError>
-    requires once { Distinct partial.now.variables.items }
-    requires wide { partial.now.rows.width ≡ length partial.now.variables.items }
-    requires known { kept.now ⊆ (partial.now.variables.items ++ pattern.now.variables.items) }
-    requires few { length kept.now < 2 ^ 32 }
+    requires partial { IsPartialTable partial.now }
+    requires kept { AreFewAmong (partial.now.variables.items ++ pattern.now.variables.items) kept.now }
     requires fits { FitPattern marked.now.source.now.tables pattern.now }
     ensures rows { IfOk result (λ o. MatchOption o
         (MoreThan most (StepsTo marked.now.source.now.tables marked.now.marks.now partial.now pattern.now kept.now))
@@ -120,8 +119,7 @@ fn next(
     wanted: &[u32],
     marked: &Marked,
 ) -> Result<Partial, AllocError>
-    requires once { Distinct partial.now.variables.items }
-    requires wide { partial.now.rows.width ≡ length partial.now.variables.items }
+    requires partial { IsPartialTable partial.now }
     requires few { length partial.now.variables.items + length pattern.now.variables.items < 2 ^ 32 }
     requires fits { FitPattern marked.now.source.now.tables pattern.now }
     ensures { IfOk result (CarriesOn marked.now.source.now.tables marked.now.marks.now pattern.now later.now wanted.now partial.now) }
@@ -165,10 +163,8 @@ pub(crate) fn premise_rows(
     most: u64,
 ) -> Result<Option<Rows>, AllocError>
     requires some { ¬ (patterns.now ≡ []) }
-    requires fit { Each patterns.now (FitPattern marked.now.source.now.tables) }
-    requires few { length (variables_of_patterns patterns.now) < 2 ^ 32 }
-    requires shown { shown.now ⊆ variables_of_patterns patterns.now }
-    requires wide { length shown.now < 2 ^ 32 }
+    requires joinable { AreJoinable marked.now.source.now.tables patterns.now }
+    requires shown { AreFewAmong (variables_of_patterns patterns.now) shown.now }
     ensures rows { IfOk result (λ o. MatchOption o
         (MoreThan most (IsMatchRow marked.now.source.now.tables marked.now.marks.now patterns.now shown.now))
         (λ r. AreMatchRows marked.now.source.now.tables marked.now.marks.now patterns.now shown.now r)) }

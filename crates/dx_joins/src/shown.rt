@@ -1,7 +1,7 @@
 // What the matches of a premise and derived variables give to any variables.
 ghost use Rattle.std.specs.Prelude.{◌≡◌, ◌↔◌, ◌⊎◌, ◌<◌, ◌≤◌, ◌+◌, ◌-◌, ◌^◌, ◌++◌, ◌∷◌, [], ℕ, List, IfOk, IfSome, OnOk, IsTrue, MatchOption, length, map, max};
 ghost use Rattle.std.specs.List.{range_with_len};
-ghost use Rattle.dx_ports.specs.Members.{◌∈◌, ◌⊆◌, Distinct, Each};
+ghost use Rattle.dx_ports.specs.Members.{◌∈◌, Distinct, Each};
 ghost use Rattle.dx_model.specs.declared.rules.Derived.{Derived as AnyDerived};
 ghost use Rattle.dx_model.specs.Rules.{after_cells, cells_of};
 ghost use Rattle.dx_funcs.specs.Offers.{IsListed};
@@ -9,9 +9,10 @@ ghost use Rattle.dx_funcs.specs.Serving.{Serves, offered};
 ghost use Rattle.dx_instance.specs.Numbers.{AreDistinctValues, Extends};
 ghost use Rattle.dx_instance.specs.Stored.{widths};
 ghost use Rattle.dx_instance.specs.Shown.{shown_tables};
-ghost use Rattle.dx_joins.specs.Collecting.{Collection};
-ghost use Rattle.dx_joins.specs.Shown.{AreTexts, FitsMatching, IsMatchTuple, MoreTuples, StandFor, shown_facts};
-ghost use Rattle.dx_joins.specs.Derivations.{DerivesTo, GivenBy, IsVariableWanted};
+ghost use Rattle.dx_joins.specs.Collecting.{Collection, TakesPlaces};
+ghost use Rattle.dx_joins.specs.Planning.{AreFewAmong};
+ghost use Rattle.dx_joins.specs.Shown.{FitsMatching, IsMatchTuple, MoreTuples, StandFor, shown_facts};
+ghost use Rattle.dx_joins.specs.Derivations.{DerivesTo, GivenBy, HasTextRows, IsComputed, IsTextRow, IsVariableWanted};
 
 use crate::collected::Collected;
 use crate::computed::Derivation;
@@ -116,14 +117,9 @@ fn derive_row<F: Fn(u32, &Items<Text>) -> Result<Text, AllocError>, M: Meaning>(
     host: &Host<F, M>,
     out: &mut Collected,
 ) -> Result<bool, AllocError>
-    requires serves { Serves F.Fn M.apply host.now }
-    requires listed { Each derivation.now.derived.now (λ (e : AnyDerived). IsListed (offered host.now) e.code (length e.args)) }
-    requires known { Each derivation.now.derived.now (λ (e : AnyDerived). e.args ⊆ derivation.now.wanted.now) }
-    requires many { length row.now ≡ length derivation.now.wanted.now }
-    requires texts { AreTexts symbols.old row.now }
-    requires apart { AreDistinctValues symbols.old }
-    requires places { Each places.now (λ i. i < length derivation.now.wanted.now + length derivation.now.derived.now) }
-    requires width { out.old.width ≡ length places.now }
+    requires computed { Each derivation.now.derived.now (IsComputed F.Fn M.apply host.now derivation.now.wanted.now) }
+    requires row { IsTextRow symbols.old (length derivation.now.wanted.now) row.now }
+    requires places { TakesPlaces (length derivation.now.wanted.now + length derivation.now.derived.now) places.now out.old }
     ensures grows { Extends symbols.old symbols.new }
     ensures apart { AreDistinctValues symbols.new }
     ensures derives { IfOk result (λ full. DerivesTo M.apply derivation.now.wanted.now derivation.now.derived.now places.now
@@ -146,14 +142,10 @@ fn derived_rows<F: Fn(u32, &Items<Text>) -> Result<Text, AllocError>, M: Meaning
     host: &Host<F, M>,
     most: u64,
 ) -> Result<Option<Rows>, AllocError>
-    requires serves { Serves F.Fn M.apply host.now }
-    requires listed { Each derivation.now.derived.now (λ (e : AnyDerived). IsListed (offered host.now) e.code (length e.args)) }
-    requires known { Each derivation.now.derived.now (λ (e : AnyDerived). e.args ⊆ derivation.now.wanted.now) }
-    requires many { rows.now.width ≡ length derivation.now.wanted.now }
-    requires texts { Each rows.now.rows (AreTexts symbols.old) }
-    requires apart { AreDistinctValues symbols.old }
-    requires shown { shown.now ⊆ (derivation.now.wanted.now ++ range_with_len derivation.now.first (length derivation.now.derived.now)) }
-    requires short { length shown.now < 2 ^ 32 }
+    requires computed { Each derivation.now.derived.now (IsComputed F.Fn M.apply host.now derivation.now.wanted.now) }
+    requires rows { HasTextRows symbols.old (length derivation.now.wanted.now) rows.now }
+    requires shown { AreFewAmong
+        (derivation.now.wanted.now ++ range_with_len derivation.now.first (length derivation.now.derived.now)) shown.now }
     ensures grows { Extends symbols.old symbols.new }
     ensures apart { AreDistinctValues symbols.new }
     ensures rows { IfOk result (λ o. MatchOption o
@@ -197,7 +189,6 @@ pub fn shown_rows<F: Fn(u32, &Items<Text>) -> Result<Text, AllocError>, M: Meani
     requires listed { Each derived.now (λ (e : AnyDerived). IsListed (offered host.now) e.code (length e.args)) }
     requires fits { FitsMatching (widths (shown_tables source.now.symbols source.now.tables)) premise.now derived.now shown.now }
     requires symbols { Extends source.now.symbols symbols.old }
-    requires apart { AreDistinctValues symbols.old }
     ensures grows { Extends symbols.old symbols.new }
     ensures apart { AreDistinctValues symbols.new }
     ensures rows { IfOk result (λ o. MatchOption o
@@ -205,6 +196,8 @@ pub fn shown_rows<F: Fn(u32, &Items<Text>) -> Result<Text, AllocError>, M: Meani
         (StandFor (length shown.now) (IsMatchTuple M.apply premise.now derived.now (shown_facts source.now) shown.now) symbols.new)) }
     ensures within { IfOk result (λ o. IfSome o (λ r. length r.rows ≤ most)) }
 {
+    // The call tells that the symbols are distinct.
+    let _count = symbols.len();
     if derived.is_empty() {
         return premise_shown(alloc, premise, shown, source, most);
     }

@@ -4,10 +4,9 @@ ghost use Rattle.dx_ports.specs.Members.{◌⊆◌, Each};
 ghost use Rattle.dx_model.specs.declared.facts.Fact.{Fact};
 ghost use Rattle.dx_model.specs.Values.{Rows};
 ghost use Rattle.dx_model.specs.Tables.{IsInstance};
-ghost use Rattle.dx_model.specs.Solutions.{AtomFits};
 ghost use Rattle.dx_model.specs.Rules.{AreRows, canonical};
 ghost use Rattle.dx_model.specs.Covers.{below, least_cover, uncovered};
-ghost use Rattle.dx_model.specs.Fitting.{IsRule, RuleFits};
+ghost use Rattle.dx_model.specs.Fitting.{RuleFits};
 ghost use Rattle.dx_schema.specs.Tables.{model_tables};
 ghost use Rattle.dx_schema.specs.Names.{table_names_of};
 ghost use Rattle.dx_funcs.specs.Names.{call_named};
@@ -17,7 +16,7 @@ ghost use Rattle.dx_script.specs.Meaning.{Means};
 ghost use Rattle.dx_script.specs.Fits.{FitsScript};
 ghost use Rattle.dx_script.specs.Generated.{create_steps, has_parts, match_steps, plain_steps, script_with};
 ghost use Rattle.dx_script.specs.Rewritten.{rewritten_steps};
-ghost use Rattle.dx_scriptgen.specs.Steps.{inserts_by, keeps_by, parts_in};
+ghost use Rattle.dx_scriptgen.specs.Steps.{HasInsertSteps, HasMatchStep, HasScript, inserts_by, keeps_by, parts_in};
 
 use crate::copies::copy_texts;
 use crate::inserts::push_inserts;
@@ -52,9 +51,7 @@ fn push_matches<F: Fn(u32, &Items<Text>) -> Result<Text, AllocError>, M: Meaning
     source: &Schema,
     host: &Host<F, M>,
 ) -> Result<(), AllocError>
-    requires rules { Each rules.now IsRule }
-    requires premises { Each rules.now (λ d. Each d.premise (AtomFits (model_tables source.now))) }
-    requires listed { Each rules.now (λ d. Each d.derived (λ e. IsListed (offered host.now) e.code (length e.args))) }
+    requires rules { Each rules.now (HasMatchStep (model_tables source.now) (offered host.now)) }
     requires few { length rules.now < 4294967296 }
     ensures { OnOk result (steps.new ≡ steps.old ++ match_steps (table_names_of source.now) (offered host.now) rules.now) }
 {
@@ -99,8 +96,7 @@ fn push_all_inserts(
     kept: &[bool],
     rules: &[Rule],
 ) -> Result<(), AllocError>
-    requires rules { Each rules.now IsRule }
-    requires conclusions { Each rules.now (λ d. Each d.conclusion (AtomFits (model_tables target.now))) }
+    requires rules { Each rules.now (HasInsertSteps (model_tables target.now)) }
     requires one { length kept.now ≡ length rules.now }
     requires few { length rules.now < 4294967296 }
     ensures { OnOk result (steps.new ≡ steps.old ++ inserts_by (table_names_of target.now) kept.now rules.now) }
@@ -131,8 +127,7 @@ fn script_of<F: Fn(u32, &Items<Text>) -> Result<Text, AllocError>, M: Meaning>(
     host: &Host<F, M>,
     parts: Vec<Items<Unless>>,
 ) -> Result<Script, AllocError>
-    requires rules { Each rules.now (RuleFits (model_tables source.now) (model_tables target.now)) }
-    requires listed { Each rules.now (λ d. Each d.derived (λ e. IsListed (offered host.now) e.code (length e.args))) }
+    requires rules { Each rules.now (HasScript (model_tables source.now) (model_tables target.now) (offered host.now)) }
     requires one { length parts.items ≡ length rules.now }
     requires few { length rules.now < 4294967296 }
     ensures { IfOk result (λ s. s.steps

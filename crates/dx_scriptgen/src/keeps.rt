@@ -5,8 +5,7 @@ ghost use Rattle.dx_model.specs.Rules.{exported as exported_of};
 ghost use Rattle.dx_model.specs.Covers.{IsNoExistential, below, rule_at, used_maps};
 ghost use Rattle.dx_model.specs.Fitting.{AgreeInWidths, IsRule, conclusions_of};
 ghost use Rattle.dx_script.specs.Rewritten.{unless_of, unless_parts};
-ghost use Rattle.dx_cover.specs.Covering.{covers_of};
-ghost use Rattle.dx_scriptgen.specs.Parts.{test_for, tests_for};
+ghost use Rattle.dx_scriptgen.specs.Parts.{AreCoveringRules, test_for, tests_for};
 
 use crate::inserts::position;
 use dx_cover::{CellMap, Covers, exported};
@@ -57,9 +56,7 @@ fn push_parts(
     i: u32,
     j: u32,
 ) -> Result<(), AllocError>
-    requires rules { Each rules.now IsRule }
-    requires widths { AgreeInWidths (conclusions_of rules.now) }
-    requires covers { covers.now ≡ covers_of rules.now }
+    requires known { AreCoveringRules rules.now covers.now }
     requires first { i < length rules.now }
     requires second { j < length rules.now }
     ensures { OnOk result (parts.new ≡ parts.old ++ map (unless_of rules.now i j) (used_maps (rule_at rules.now i) (rule_at rules.now j))) }
@@ -81,9 +78,7 @@ fn parts_of(
     covers: &Covers,
     i: u32,
 ) -> Result<Items<Unless>, AllocError>
-    requires rules { Each rules.now IsRule }
-    requires widths { AgreeInWidths (conclusions_of rules.now) }
-    requires covers { covers.now ≡ covers_of rules.now }
+    requires known { AreCoveringRules rules.now covers.now }
     requires first { i < length rules.now }
     requires few { length rules.now < 4294967296 }
     ensures { IfOk result (λ parts. parts ≡ unless_parts rules.now i) }

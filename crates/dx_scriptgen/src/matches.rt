@@ -4,14 +4,14 @@ ghost use Rattle.dx_ports.specs.Members.{Each};
 ghost use Rattle.dx_model.specs.Rules.{exported as exported_of};
 ghost use Rattle.dx_model.specs.Fitting.{IsRule, premise_variables};
 ghost use Rattle.dx_model.specs.declared.rules.Atom.{Atom as AtomValue};
-ghost use Rattle.dx_model.specs.Solutions.{AtomFits};
 ghost use Rattle.dx_schema.specs.Tables.{model_tables, tables_of};
 ghost use Rattle.dx_schema.specs.Names.{table_names_of};
 ghost use Rattle.dx_funcs.specs.Offers.{IsListed};
 ghost use Rattle.dx_funcs.specs.Serving.{offered};
 ghost use Rattle.dx_script.specs.Names.{table_numbered};
 ghost use Rattle.dx_script.specs.Generated.{Spot, match_step as match_of, select_of as select_for};
-ghost use Rattle.dx_scriptgen.specs.Selecting.{firsts_of};
+ghost use Rattle.dx_scriptgen.specs.Selecting.{IsSelectable, firsts_of};
+ghost use Rattle.dx_scriptgen.specs.Steps.{HasMatchStep};
 
 use crate::copies::{cells_at, copy_cell};
 use crate::premise::Premise;
@@ -33,8 +33,7 @@ fn select_of<F: Fn(u32, &Items<Text>) -> Result<Text, AllocError>, M: Meaning>(
 ) -> Result<Select, AllocError>
     requires firsts { length firsts.now ≡ premise_variables rule.now }
     requires known { variable < premise_variables rule.now + length rule.now.derived }
-    requires arguments { Each rule.now.derived (λ e. Each e.args (λ y. y < premise_variables rule.now)) }
-    requires listed { Each rule.now.derived (λ e. IsListed (offered host.now) e.code (length e.args)) }
+    requires calls { Each rule.now.derived (IsSelectable (offered host.now) (premise_variables rule.now)) }
     ensures { IfOk result (λ s. (all : List Spot) → firsts.now ≡ firsts_of all rule.now
         → s ≡ select_for (offered host.now) all rule.now variable) }
 {
@@ -89,9 +88,7 @@ pub(crate) fn match_step<F: Fn(u32, &Items<Text>) -> Result<Text, AllocError>, M
     source: &Schema,
     host: &Host<F, M>,
 ) -> Result<Step, AllocError>
-    requires rule { IsRule rule.now }
-    requires atoms { Each rule.now.premise (AtomFits (model_tables source.now)) }
-    requires listed { Each rule.now.derived (λ e. IsListed (offered host.now) e.code (length e.args)) }
+    requires { HasMatchStep (model_tables source.now) (offered host.now) rule.now }
     ensures { IfOk result (λ s. s ≡ match_of (table_names_of source.now) (offered host.now) number rule.now) }
 {
     let atoms = rule.premise.items();

@@ -6,17 +6,17 @@ pub parts_rows-requires-clause-some : goal.parts_rows-requires-clause-some
 parts_rows-requires-clause-some c =
     rw c.deref.ensures.value (some_in c.args.patterns.items c.in_ok-ordered.ordered.items c.in_ok-ordered.ensures c.requires.some)
 
-pub parts_rows-requires-clause-fit : goal.parts_rows-requires-clause-fit
-parts_rows-requires-clause-fit c =
-    rw c.deref.ensures.value (each_in (FitPattern c.args.marked.now.source.now.tables) c.args.patterns.items c.in_ok-ordered.ordered.items c.in_ok-ordered.ensures c.requires.fit)
-
-pub parts_rows-requires-clause-few : goal.parts_rows-requires-clause-few
-parts_rows-requires-clause-few c =
-    rw c.deref.ensures.value (few_in c.args.patterns.items c.in_ok-ordered.ordered.items c.in_ok-ordered.ensures c.requires.few)
+pub parts_rows-requires-clause-joinable : goal.parts_rows-requires-clause-joinable
+parts_rows-requires-clause-joinable c = rw c.deref.ensures.value (record {
+  fit = each_in (FitPattern c.args.marked.now.source.now.tables) c.args.patterns.items c.in_ok-ordered.ordered.items c.in_ok-ordered.ensures c.requires.joinable.fit;
+  few = few_in c.args.patterns.items c.in_ok-ordered.ordered.items c.in_ok-ordered.ensures c.requires.joinable.few;
+})
 
 pub parts_rows-requires-clause-shown : goal.parts_rows-requires-clause-shown
-parts_rows-requires-clause-shown c =
-    rw c.deref.ensures.value (shown_in c.args.patterns.items c.in_ok-ordered.ordered.items c.args.shown.now c.in_ok-ordered.ensures c.requires.shown)
+parts_rows-requires-clause-shown c = rw c.deref.ensures.value (record {
+  known = shown_in c.args.patterns.items c.in_ok-ordered.ordered.items c.args.shown.now c.in_ok-ordered.ensures c.requires.shown.known;
+  few = c.requires.shown.few;
+})
 
 pub returns-clause-rows : goal.returns-clause-rows
 returns-clause-rows c =

@@ -1,11 +1,14 @@
-use Rattle.std.proofs.Common.{subst, ℕ, List, inl}
+use Rattle.std.proofs.Common.{ap, subst, arith, ℕ, List, inl, length}
 use Rattle.dx_ports.specs.Members.{◌∈◌}
 use Rattle.dx_joins.specs.Products.{GivesRows}
 use Rattle.dx_joins.proofs.Products.{needed_there}
 use Rattle.dx_joins.proofs.parts.part_of.Goals as goal
 
 pub premise_rows-requires-clause-shown : goal.premise_rows-requires-clause-shown
-premise_rows-requires-clause-shown c = λ x m. needed_there c.args.patterns.now x (c.in_ok-variables.ensures.only x (subst (λ (l : List ℕ). x ∈ l) c.deref.ensures.value m))
+premise_rows-requires-clause-shown c = record {
+  known = λ x m. needed_there c.args.patterns.now x (c.in_ok-variables.ensures.only x (subst (λ (l : List ℕ). x ∈ l) c.deref.ensures.value m));
+  few = omega (arith, ap length c.deref.ensures.value, c.in_ok-variables.ensures.few, c.requires.wide);
+}
 
 pub returns : goal.returns
 returns c = record {

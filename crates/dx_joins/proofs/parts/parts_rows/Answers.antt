@@ -2,7 +2,7 @@ use Rattle.std.proofs.Common.{◌-◌, subst, arith, List, length, take, drop}
 use Rattle.dx_joins.specs.declared.pattern.Pattern.{Pattern}
 use Rattle.dx_joins.specs.Products.{ShareNone}
 use Rattle.dx_joins.proofs.Carrying.{some_length}
-use Rattle.dx_joins.proofs.Products.{last_gives, last_within, next_apart, next_part, part_apart, part_none, rest_all, slice, slice_few, slice_in, start_apart}
+use Rattle.dx_joins.proofs.Products.{last_gives, last_within, next_apart, next_part, part_apart, part_none, part_wide, rest_all, slice, slice_few, slice_in, start_apart}
 use Rattle.dx_joins.proofs.parts.parts_rows.Goals as goal
 use Rattle.dx_joins.proofs.parts.parts_rows.Goals.{then-are_apart+in_ok-whole-2, else-are_apart}
 
@@ -17,16 +17,27 @@ loop-end-init c =
       within = n;
     }
 
-pub with_part-requires-clause-apart : goal.with_part-requires-clause-apart
-with_part-requires-clause-apart c =
+pub with_part-requires-clause-whole : goal.with_part-requires-clause-whole
+with_part-requires-clause-whole c =
     let i = c.loop-end.invariant in
-    part_apart c.args.marked.now.source.now.tables c.args.marked.now.marks.now c.args.most c.args.patterns.now c.args.shown.now c.loop-end.done (c.loop-end.end - c.loop-end.done) c.loop-end.whole i.part i.apart
+    let tables = c.args.marked.now.source.now.tables in
+    let marks = c.args.marked.now.marks.now in
+    let ps = c.args.patterns.now in
+    let done = c.loop-end.done in
+    record {
+      wide = part_wide tables marks c.args.most (take done ps) c.args.shown.now c.loop-end.whole i.part;
+      once = i.part.once;
+      wanted = i.part.wanted;
+      few = c.requires.shown.few;
+      apart = part_apart tables marks c.args.most ps c.args.shown.now done (c.loop-end.end - done) c.loop-end.whole i.part i.apart;
+    }
 
-pub with_part-requires-clause-fit : goal.with_part-requires-clause-fit
-with_part-requires-clause-fit c = λ p m. c.requires.fit p (slice_in c.args.patterns.now c.loop-end.done (c.loop-end.end - c.loop-end.done) p m)
-
-pub with_part-requires-clause-few : goal.with_part-requires-clause-few
-with_part-requires-clause-few c = let few = slice_few c.args.patterns.now c.loop-end.done (c.loop-end.end - c.loop-end.done) in omega (arith, few, c.requires.few)
+pub with_part-requires-clause-joinable : goal.with_part-requires-clause-joinable
+with_part-requires-clause-joinable c =
+    let ps = c.args.patterns.now in
+    let done = c.loop-end.done in
+    let less = slice_few ps done (c.loop-end.end - done) in
+    record { fit = λ p m. c.requires.joinable.fit p (slice_in ps done (c.loop-end.end - done) p m); few = omega (arith, less, c.requires.joinable.few) }
 
 pub loop-end-preserved : goal.loop-end-preserved
 loop-end-preserved c =
@@ -47,16 +58,20 @@ loop-end-preserved c =
       | else-are_apart w ↦ rw (w.whole-is, w.done-is) (record { part = i.part; apart = i.apart; before = omega (arith, i.before); within = i.within })
     ]
 
-pub part_of-requires-clause-fit : goal.part_of-requires-clause-fit
-part_of-requires-clause-fit c = λ p m. c.requires.fit p (slice_in c.args.patterns.now c.loop-end.done (length c.args.patterns.now - c.loop-end.done) p m)
+pub part_of-requires-clause-joinable : goal.part_of-requires-clause-joinable
+part_of-requires-clause-joinable c =
+    let ps = c.args.patterns.now in
+    let done = c.loop-end.done in
+    let less = slice_few ps done (length ps - done) in
+    record { fit = λ p m. c.requires.joinable.fit p (slice_in ps done (length ps - done) p m); few = omega (arith, less, c.requires.joinable.few) }
 
-pub part_of-requires-clause-few : goal.part_of-requires-clause-few
-part_of-requires-clause-few c = let few = slice_few c.args.patterns.now c.loop-end.done (length c.args.patterns.now - c.loop-end.done) in omega (arith, few, c.requires.few)
-
-pub product-requires-clause-known : goal.product-requires-clause-known
-product-requires-clause-known c =
+pub product-requires-clause-kept : goal.product-requires-clause-kept
+product-requires-clause-kept c =
     let i = c.loop-end.invariant in
-    last_within c.args.marked.now.source.now.tables c.args.marked.now.marks.now c.args.most c.args.patterns.now c.args.shown.now c.loop-end.done c.loop-end.whole c.in_ok-last.last (omega (arith, i.within)) i.part c.in_ok-last.ensures c.requires.shown
+    record {
+      known = last_within c.args.marked.now.source.now.tables c.args.marked.now.marks.now c.args.most c.args.patterns.now c.args.shown.now c.loop-end.done c.loop-end.whole c.in_ok-last.last (omega (arith, i.within)) i.part c.in_ok-last.ensures c.requires.shown.known;
+      few = c.requires.shown.few;
+    }
 
 pub returns-clause-rows : goal.returns-clause-rows
 returns-clause-rows c =

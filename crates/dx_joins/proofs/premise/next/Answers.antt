@@ -6,19 +6,19 @@ use Rattle.dx_joins.specs.Planning.{StepsTo}
 use Rattle.dx_joins.proofs.Carrying.{carry_more, found, never}
 use Rattle.dx_joins.proofs.premise.next.Goals as goal
 
-pub step-requires-clause-known : goal.step-requires-clause-known
-step-requires-clause-known c = λ x m.
+pub step-requires-clause-kept : goal.step-requires-clause-kept
+step-requires-clause-kept c =
     let names = c.deref-3.ensures.value ∙ c.in_ok-names.ensures in
-    let at = c.in_ok-kept.ensures.some x (subst (λ (l : List ℕ). x ∈ l) c.deref-4.ensures.value m) in
-    subst (λ (l : List ℕ). x ∈ l) (names ∙ (ap (λ (l : List ℕ). l ++ c.deref-2.result.now) c.deref.ensures.value ∙ ap (λ (l : List ℕ). c.args.partial.now.variables.items ++ l) c.deref-2.ensures.value)) at
-
-pub step-requires-clause-few : goal.step-requires-clause-few
-step-requires-clause-few c =
-    let names = ap length (c.deref-3.ensures.value ∙ c.in_ok-names.ensures) in
+    let long = ap length names in
     let l = ap length c.deref.ensures.value in
     let r = ap length c.deref-2.ensures.value in
     let a = length-append c.deref.result.now c.deref-2.result.now in
-    omega (arith, names, l, r, a, c.in_ok-kept.ensures.few, ap length c.deref-4.ensures.value, c.requires.few)
+    record {
+      known = λ x m.
+          let at = c.in_ok-kept.ensures.some x (subst (λ (l : List ℕ). x ∈ l) c.deref-4.ensures.value m) in
+          subst (λ (l : List ℕ). x ∈ l) (names ∙ (ap (λ (l : List ℕ). l ++ c.deref-2.result.now) c.deref.ensures.value ∙ ap (λ (l : List ℕ). c.args.partial.now.variables.items ++ l) c.deref-2.ensures.value)) at;
+      few = omega (arith, long, l, r, a, c.in_ok-kept.ensures.few, ap length c.deref-4.ensures.value, c.requires.few);
+    }
 
 pub unreachable-requires : goal.unreachable-requires
 unreachable-requires c = never c.in_ok-rows.field-0 (StepsTo c.args.marked.now.source.now.tables c.args.marked.now.marks.now c.args.partial.now c.args.pattern.now c.deref-4.result.now) _ c.in-None.is c.in_ok-rows.ensures.rows

@@ -1,9 +1,18 @@
-use Rattle.std.proofs.Common.{◌∙◌, ◌⊎◌, ap, List, ℕ, length}
+use Rattle.std.proofs.Common.{◌∙◌, ◌⊎◌, ap, sym, List, ℕ, length}
 use Rattle.dx_ports.specs.Members.{◌∈◌}
 use Rattle.dx_joins.specs.Collecting.{AreThose, Collection, CollectsRows, MoreThan}
 use Rattle.dx_joins.specs.Planning.{StepsTo}
 use Rattle.dx_joins.proofs.Carrying.{few_rows, from_plan, plan_steps, step_done, step_full}
 use Rattle.dx_joins.proofs.premise.step.Goals as goal
+
+pub join-requires : goal.join-requires
+join-requires c =
+    let e = c.in_ok-plan.ensures in
+    record {
+      plan = e.plan;
+      left = c.requires.partial.wide ∙ sym (ap length (e.left ∙ c.deref.ensures.value));
+      width = ap (λ (x : Collection). x.width) c.new-out.ensures ∙ sym (ap length e.kept);
+    }
 
 pub returns-then-branch-clause-rows : goal.returns-then-branch-clause-rows
 returns-then-branch-clause-rows c =

@@ -21,7 +21,7 @@ use Rattle.dx_joins.proofs.shown.derived_rows.Goals as goal
 pub loop-place-init : goal.loop-place-init
 loop-place-init g c = record {
   grows = stays c.args.symbols.now;
-  apart = c.requires.apart;
+  apart = c.requires.rows.apart;
   width = ap (λ (x : Collection). x.width) c.new-out.ensures;
   most = ap (λ (x : Collection). x.most) c.new-out.ensures;
   standing =
@@ -31,57 +31,40 @@ loop-place-init g c = record {
       let S0 = c.args.symbols.now in
       let names = c.deref.ensures.value ∙ c.in_ok-names.ensures in
       let at : c.in_ok-places.places.items ≡ map (first_place (wanted ++ range_with_len c.args.derivation.now.first (length derived))) c.args.shown.now = c.in_ok-places.ensures ∙ ap (λ (l : List ℕ). map (first_place l) c.args.shown.now) names in
-      let wide : Each rows (λ (r : List ℕ). length r ≡ length wanted) = λ r m. c.count-place-end.ensures.wide r m ∙ c.requires.many in
-      upto_none g.M.Meaning.apply wanted derived c.args.derivation.now.first c.args.shown.now c.in_ok-places.places.items S0 rows c.requires.texts wide at c.requires.shown (length-range_with_len c.args.derivation.now.first (length derived))
+      let wide : Each rows (λ (r : List ℕ). length r ≡ length wanted) = λ r m. c.count-place-end.ensures.wide r m ∙ c.requires.rows.width in
+      upto_none g.M.Meaning.apply wanted derived c.args.derivation.now.first c.args.shown.now c.in_ok-places.places.items S0 rows c.requires.rows.texts wide at c.requires.shown.known (length-range_with_len c.args.derivation.now.first (length derived))
       (length c.args.shown.now) c.args.most c.new-out.result (ap (λ (x : Collection). x.rows) c.new-out.ensures);
 }
 
 pub places-requires : goal.places-requires
-places-requires g c = subst (λ (l : List ℕ). c.args.shown.now ⊆ l) (sym (c.deref.ensures.value ∙ c.in_ok-names.ensures)) c.requires.shown
+places-requires g c = subst (λ (l : List ℕ). c.args.shown.now ⊆ l) (sym (c.deref.ensures.value ∙ c.in_ok-names.ensures)) c.requires.shown.known
 
-pub derive_row-requires-clause-many : goal.derive_row-requires-clause-many
-derive_row-requires-clause-many g c =
+pub derive_row-requires-clause-computed : goal.derive_row-requires-clause-computed
+derive_row-requires-clause-computed g c = c.requires.computed
+
+pub derive_row-requires-clause-row : goal.derive_row-requires-clause-row
+derive_row-requires-clause-row g c =
     let rows = c.args.rows.now.rows in
     let row = numbers_at rows c.loop-place.place in
-    let wide = c.count-place-end.ensures.wide row (in_at rows c.loop-place.place [] (omega (arith, c.loop-place-test.true, c.count-place-end.ensures.count))) in
-    ap length c.row-row.ensures.row ∙ wide ∙ c.requires.many
-
-pub derive_row-requires-clause-known : goal.derive_row-requires-clause-known
-derive_row-requires-clause-known g c = c.requires.known
-
-pub derive_row-requires-clause-listed : goal.derive_row-requires-clause-listed
-derive_row-requires-clause-listed g c = c.requires.listed
-
-pub derive_row-requires-clause-texts : goal.derive_row-requires-clause-texts
-derive_row-requires-clause-texts g c =
-    let row = numbers_at c.args.rows.now.rows c.loop-place.place in
-    let t = c.requires.texts row (in_at c.args.rows.now.rows c.loop-place.place [] (omega (arith, c.loop-place-test.true, c.count-place-end.ensures.count))) in
-    subst (λ (r : List ℕ). AreTexts c.loop-place.symbols r) (sym c.row-row.ensures.row) (texts_grow c.args.symbols.now c.loop-place.symbols row c.loop-place.invariant.grows t)
-
-pub derive_row-requires-clause-apart : goal.derive_row-requires-clause-apart
-derive_row-requires-clause-apart g c = c.loop-place.invariant.apart
+    let there = in_at rows c.loop-place.place [] (omega (arith, c.loop-place-test.true, c.count-place-end.ensures.count)) in
+    record {
+      apart = c.loop-place.invariant.apart;
+      many = ap length c.row-row.ensures.row ∙ c.count-place-end.ensures.wide row there ∙ c.requires.rows.width;
+      texts = subst (λ (r : List ℕ). AreTexts c.loop-place.symbols r) (sym c.row-row.ensures.row) (texts_grow c.args.symbols.now c.loop-place.symbols row c.loop-place.invariant.grows (c.requires.rows.texts row there));
+    }
 
 pub derive_row-requires-clause-places : goal.derive_row-requires-clause-places
 derive_row-requires-clause-places g c =
     let wanted = c.args.derivation.now.wanted.now in
     let derived = c.args.derivation.now.derived.now in
-    let rows = c.args.rows.now.rows in
-    let S0 = c.args.symbols.now in
+    let numbers = wanted ++ range_with_len c.args.derivation.now.first (length derived) in
     let names = c.deref.ensures.value ∙ c.in_ok-names.ensures in
-    let at : c.deref-in-loop-place.result.now ≡ map (first_place (wanted ++ range_with_len c.args.derivation.now.first (length derived))) c.args.shown.now = c.deref-in-loop-place.ensures.value ∙ c.in_ok-places.ensures ∙ ap (λ (l : List ℕ). map (first_place l) c.args.shown.now) names in
-    let wide : Each rows (λ (r : List ℕ). length r ≡ length wanted) = λ r m. c.count-place-end.ensures.wide r m ∙ c.requires.many in
-    λ i m. let h = places_within wanted (range_with_len c.args.derivation.now.first (length derived)) c.args.shown.now c.deref-in-loop-place.result.now c.requires.shown at i m in omega (arith, h, length-range_with_len c.args.derivation.now.first (length derived))
-
-pub derive_row-requires-clause-width : goal.derive_row-requires-clause-width
-derive_row-requires-clause-width g c =
-    let wanted = c.args.derivation.now.wanted.now in
-    let derived = c.args.derivation.now.derived.now in
-    let rows = c.args.rows.now.rows in
-    let S0 = c.args.symbols.now in
-    let names = c.deref.ensures.value ∙ c.in_ok-names.ensures in
-    let at : c.deref-in-loop-place.result.now ≡ map (first_place (wanted ++ range_with_len c.args.derivation.now.first (length derived))) c.args.shown.now = c.deref-in-loop-place.ensures.value ∙ c.in_ok-places.ensures ∙ ap (λ (l : List ℕ). map (first_place l) c.args.shown.now) names in
-    let wide : Each rows (λ (r : List ℕ). length r ≡ length wanted) = λ r m. c.count-place-end.ensures.wide r m ∙ c.requires.many in
-    c.loop-place.invariant.width ∙ sym (ap length at ∙ length-map c.args.shown.now (first_place (wanted ++ range_with_len c.args.derivation.now.first (length derived))))
+    let at : c.deref-in-loop-place.result.now ≡ map (first_place numbers) c.args.shown.now = c.deref-in-loop-place.ensures.value ∙ c.in_ok-places.ensures ∙ ap (λ (l : List ℕ). map (first_place l) c.args.shown.now) names in
+    let within = places_within wanted (range_with_len c.args.derivation.now.first (length derived)) c.args.shown.now c.deref-in-loop-place.result.now c.requires.shown.known at in
+    record {
+      within = λ i m. let h = within i m in omega (arith, h, length-range_with_len c.args.derivation.now.first (length derived));
+      width = c.loop-place.invariant.width ∙ sym (ap length at ∙ length-map c.args.shown.now (first_place numbers));
+    }
 
 pub returns-in_err-derive_row-clause-grows : goal.returns-in_err-derive_row-clause-grows
 returns-in_err-derive_row-clause-grows g c = extends_both c.args.symbols.now c.loop-place.symbols c.derive_row.new.symbols c.loop-place.invariant.grows c.derive_row.ensures.grows
@@ -97,10 +80,10 @@ returns-then-branch-clause-rows g c =
     let S0 = c.args.symbols.now in
     let names = c.deref.ensures.value ∙ c.in_ok-names.ensures in
     let at : c.deref-in-loop-place.result.now ≡ map (first_place (wanted ++ range_with_len c.args.derivation.now.first (length derived))) c.args.shown.now = c.deref-in-loop-place.ensures.value ∙ c.in_ok-places.ensures ∙ ap (λ (l : List ℕ). map (first_place l) c.args.shown.now) names in
-    let wide : Each rows (λ (r : List ℕ). length r ≡ length wanted) = λ r m. c.count-place-end.ensures.wide r m ∙ c.requires.many in
+    let wide : Each rows (λ (r : List ℕ). length r ≡ length wanted) = λ r m. c.count-place-end.ensures.wide r m ∙ c.requires.rows.width in
     let d = subst (λ (r : List ℕ). DerivesTo g.M.Meaning.apply wanted derived c.deref-in-loop-place.result.now c.loop-place.symbols c.derive_row.new.symbols r c.in_ok-derive_row.field-0 c.loop-place.out c.derive_row.new.out) c.row-row.ensures.row c.in_ok-derive_row.ensures.derives in
     let inside : c.loop-place.place < length rows = omega (arith, c.loop-place-test.true, c.count-place-end.ensures.count) in
-    upto_full g.M.Meaning.apply wanted derived c.args.derivation.now.first c.args.shown.now c.deref-in-loop-place.result.now S0 rows c.requires.texts wide at c.requires.shown (length-range_with_len c.args.derivation.now.first (length derived))
+    upto_full g.M.Meaning.apply wanted derived c.args.derivation.now.first c.args.shown.now c.deref-in-loop-place.result.now S0 rows c.requires.rows.texts wide at c.requires.shown.known (length-range_with_len c.args.derivation.now.first (length derived))
     c.loop-place.symbols c.derive_row.new.symbols c.loop-place.out c.derive_row.new.out c.loop-place.place c.args.most inside c.loop-place.invariant.most c.derive_row.ensures.apart c.loop-place.invariant.grows c.derive_row.ensures.grows
     (subst (λ (b : Bool). DerivesTo g.M.Meaning.apply wanted derived c.deref-in-loop-place.result.now c.loop-place.symbols c.derive_row.new.symbols (numbers_at rows c.loop-place.place) b c.loop-place.out c.derive_row.new.out) c.if-branch.true d)
     c.loop-place.invariant.standing
@@ -113,7 +96,7 @@ loop-place-preserved g c =
     let S0 = c.args.symbols.now in
     let names = c.deref.ensures.value ∙ c.in_ok-names.ensures in
     let at : c.deref-in-loop-place.result.now ≡ map (first_place (wanted ++ range_with_len c.args.derivation.now.first (length derived))) c.args.shown.now = c.deref-in-loop-place.ensures.value ∙ c.in_ok-places.ensures ∙ ap (λ (l : List ℕ). map (first_place l) c.args.shown.now) names in
-    let wide : Each rows (λ (r : List ℕ). length r ≡ length wanted) = λ r m. c.count-place-end.ensures.wide r m ∙ c.requires.many in
+    let wide : Each rows (λ (r : List ℕ). length r ≡ length wanted) = λ r m. c.count-place-end.ensures.wide r m ∙ c.requires.rows.width in
     let d = subst (λ (r : List ℕ). DerivesTo g.M.Meaning.apply wanted derived c.deref-in-loop-place.result.now c.loop-place.symbols c.derive_row.new.symbols r c.in_ok-derive_row.field-0 c.loop-place.out c.derive_row.new.out) c.row-row.ensures.row c.in_ok-derive_row.ensures.derives in
     let inside : c.loop-place.place < length rows = omega (arith, c.loop-place-test.true, c.count-place-end.ensures.count) in
     let more = subst (λ (b : Bool). DerivesTo g.M.Meaning.apply wanted derived c.deref-in-loop-place.result.now c.loop-place.symbols c.derive_row.new.symbols (numbers_at rows c.loop-place.place) b c.loop-place.out c.derive_row.new.out) c.if-branch.false d in
@@ -122,7 +105,7 @@ loop-place-preserved g c =
       apart = c.derive_row.ensures.apart;
       width = more.collects.width ∙ c.loop-place.invariant.width;
       most = more.collects.most ∙ c.loop-place.invariant.most;
-      standing = upto_more g.M.Meaning.apply wanted derived c.args.derivation.now.first c.args.shown.now c.deref-in-loop-place.result.now S0 rows c.requires.texts wide at c.requires.shown (length-range_with_len c.args.derivation.now.first (length derived))
+      standing = upto_more g.M.Meaning.apply wanted derived c.args.derivation.now.first c.args.shown.now c.deref-in-loop-place.result.now S0 rows c.requires.rows.texts wide at c.requires.shown.known (length-range_with_len c.args.derivation.now.first (length derived))
           c.loop-place.symbols c.derive_row.new.symbols c.loop-place.out c.derive_row.new.out c.loop-place.place inside c.loop-place.invariant.grows c.derive_row.ensures.grows more c.loop-place.invariant.standing;
     }
 
@@ -140,8 +123,8 @@ returns-clause-rows g c =
     let S0 = c.args.symbols.now in
     let names = c.deref.ensures.value ∙ c.in_ok-names.ensures in
     let at : c.in_ok-places.places.items ≡ map (first_place (wanted ++ range_with_len c.args.derivation.now.first (length derived))) c.args.shown.now = c.in_ok-places.ensures ∙ ap (λ (l : List ℕ). map (first_place l) c.args.shown.now) names in
-    let wide : Each rows (λ (r : List ℕ). length r ≡ length wanted) = λ r m. c.count-place-end.ensures.wide r m ∙ c.requires.many in
-    upto_all g.M.Meaning.apply wanted derived c.args.derivation.now.first c.args.shown.now c.in_ok-places.places.items S0 rows c.requires.texts wide at c.requires.shown (length-range_with_len c.args.derivation.now.first (length derived))
+    let wide : Each rows (λ (r : List ℕ). length r ≡ length wanted) = λ r m. c.count-place-end.ensures.wide r m ∙ c.requires.rows.width in
+    upto_all g.M.Meaning.apply wanted derived c.args.derivation.now.first c.args.shown.now c.in_ok-places.places.items S0 rows c.requires.rows.texts wide at c.requires.shown.known (length-range_with_len c.args.derivation.now.first (length derived))
     c.finish.result c.loop-place.symbols c.loop-place.out c.loop-place.place c.args.most (omega (arith, c.loop-place-test.false, c.count-place-end.ensures.count, c.loop-place.auto.place-end)) c.loop-place.invariant.most c.loop-place.invariant.width
     c.loop-place.invariant.apart c.loop-place.invariant.standing c.finish.ensures
 

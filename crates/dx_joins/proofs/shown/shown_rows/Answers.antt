@@ -19,15 +19,14 @@ returns-then-is_empty-clause-rows g c =
     result_same c.premise_shown.result c.args.most (length c.args.shown.now) (IsMatchTuple g.M.Meaning.apply c.args.premise.now [] I c.args.shown.now) (IsMatchTuple g.M.Meaning.apply c.args.premise.now c.args.derived.now I c.args.shown.now)
     c.args.symbols.now (no_derived g.M.Meaning.apply c.args.premise.now c.args.derived.now I c.args.shown.now none) plain
 
-pub derived_rows-requires-clause-many : goal.derived_rows-requires-clause-many
-derived_rows-requires-clause-many g c =
+pub derived_rows-requires-clause-rows : goal.derived_rows-requires-clause-rows
+derived_rows-requires-clause-rows g c =
     let s = found c.in_ok-rows.field-0 c.in-Some.rows _ _ c.in-Some.is (c.in_ok-rows.ensures.rows g.M.Meaning.apply) in
-    s.width ∙ ap length (c.deref.ensures.value ∙ sym c.deref-in-Some.ensures.value)
-
-pub derived_rows-requires-clause-texts : goal.derived_rows-requires-clause-texts
-derived_rows-requires-clause-texts g c =
-    let s = found c.in_ok-rows.field-0 c.in-Some.rows _ _ c.in-Some.is (c.in_ok-rows.ensures.rows g.M.Meaning.apply) in
-    λ r m. texts_grow c.args.source.now.symbols c.args.symbols.now r c.requires.symbols (s.texts r m)
+    record {
+      apart = c.len-count.ensures.apart;
+      width = s.width ∙ ap length (c.deref.ensures.value ∙ sym c.deref-in-Some.ensures.value);
+      texts = λ r m. texts_grow c.args.source.now.symbols c.args.symbols.now r c.requires.symbols (s.texts r m);
+    }
 
 pub derived_rows-requires-clause-shown : goal.derived_rows-requires-clause-shown
 derived_rows-requires-clause-shown g c =
@@ -36,16 +35,20 @@ derived_rows-requires-clause-shown g c =
     let below = subst (λ (l : List ℕ). Each l (λ x. x < first)) w c.in_ok-wanted.ensures.below in
     let all = subst (λ (l : List ℕ). (x : ℕ) → x < first → IsVariableWanted c.args.derived.now c.args.shown.now x → x ∈ l) w c.in_ok-wanted.ensures.all in
     let few = subst (λ (l : List ℕ). length l ≤ first) w c.in_ok-wanted.ensures.few in
-    shown_wanted (widths (shown_tables c.args.source.now.symbols c.args.source.now.tables)) c.args.premise.now c.args.derived.now c.args.shown.now c.deref-in-Some.result.now first c.requires.fits c.premise_variables-first.ensures.number below all few
+    record {
+      known = shown_wanted (widths (shown_tables c.args.source.now.symbols c.args.source.now.tables)) c.args.premise.now c.args.derived.now c.args.shown.now c.deref-in-Some.result.now first c.requires.fits c.premise_variables-first.ensures.number below all few;
+      few = c.requires.fits.short;
+    }
 
-pub derived_rows-requires-clause-known : goal.derived_rows-requires-clause-known
-derived_rows-requires-clause-known g c =
+pub derived_rows-requires-clause-computed : goal.derived_rows-requires-clause-computed
+derived_rows-requires-clause-computed g c =
     let first = c.premise_variables-first.result in
     let w = sym c.deref-in-Some.ensures.value in
     let below = subst (λ (l : List ℕ). Each l (λ x. x < first)) w c.in_ok-wanted.ensures.below in
     let all = subst (λ (l : List ℕ). (x : ℕ) → x < first → IsVariableWanted c.args.derived.now c.args.shown.now x → x ∈ l) w c.in_ok-wanted.ensures.all in
     let few = subst (λ (l : List ℕ). length l ≤ first) w c.in_ok-wanted.ensures.few in
-    args_wanted (widths (shown_tables c.args.source.now.symbols c.args.source.now.tables)) c.args.premise.now c.args.derived.now c.args.shown.now c.deref-in-Some.result.now first c.requires.fits c.premise_variables-first.ensures.number below all few
+    let known = args_wanted (widths (shown_tables c.args.source.now.symbols c.args.source.now.tables)) c.args.premise.now c.args.derived.now c.args.shown.now c.deref-in-Some.result.now first c.requires.fits c.premise_variables-first.ensures.number below all few in
+    λ e m. record { serves = c.requires.serves; listed = c.requires.listed e m; known = known e m }
 
 pub invariant_of-derivation : goal.invariant_of-derivation
 invariant_of-derivation g c =

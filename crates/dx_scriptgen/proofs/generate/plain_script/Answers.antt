@@ -19,6 +19,9 @@ use Rattle.dx_scriptgen.proofs.Whole.{agree_in_widths, listed_script}
 use Rattle.dx_scriptgen.proofs.generate.plain_script.Goals as goal
 use Rattle.dx_scriptgen.proofs.generate.plain_script.Goals.{After-script_of}
 
+pub script_of-requires-clause-rules : goal.script_of-requires-clause-rules
+script_of-requires-clause-rules g c = λ d m. record { fits = c.requires.rules d m; listed = c.requires.listed d m }
+
 pub script_of-requires-clause-one : goal.script_of-requires-clause-one
 script_of-requires-clause-one g c = ap length c.in_ok-parts.ensures ∙ length_map_below (λ r. []) (length c.args.rules.now)
 

@@ -10,14 +10,8 @@ use Rattle.dx_script.specs.Generated.{match_step}
 use Rattle.dx_scriptgen.proofs.Lists.{map_more}
 use Rattle.dx_scriptgen.proofs.generate.push_matches.Goals as goal
 
-pub match_step-requires-clause-rule : goal.match_step-requires-clause-rule
-match_step-requires-clause-rule g c = c.requires.rules c.index-rules-number.result (item_in c.args.rules.now c.loop-number.number c.index-rules-number.result c.loop-number-test.true c.index-rules-number.is)
-
-pub match_step-requires-clause-atoms : goal.match_step-requires-clause-atoms
-match_step-requires-clause-atoms g c = c.requires.premises c.index-rules-number.result (item_in c.args.rules.now c.loop-number.number c.index-rules-number.result c.loop-number-test.true c.index-rules-number.is)
-
-pub match_step-requires-clause-listed : goal.match_step-requires-clause-listed
-match_step-requires-clause-listed g c = c.requires.listed c.index-rules-number.result (item_in c.args.rules.now c.loop-number.number c.index-rules-number.result c.loop-number-test.true c.index-rules-number.is)
+pub match_step-requires : goal.match_step-requires
+match_step-requires g c = c.requires.rules c.index-rules-number.result (item_in c.args.rules.now c.loop-number.number c.index-rules-number.result c.loop-number-test.true c.index-rules-number.is)
 
 pub loop-number-preserved : goal.loop-number-preserved
 loop-number-preserved g c =

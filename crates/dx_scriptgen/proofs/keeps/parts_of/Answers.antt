@@ -10,8 +10,8 @@ pub loop-j-preserved : goal.loop-j-preserved
 loop-j-preserved c = elim c.if-before.branch [
   | then-before+in_ok-push_parts w ↦
       w.parts-is ∙ kept_more (λ j. map (unless_of c.args.rules.now c.args.i j) (used_maps (rule_at c.args.rules.now c.args.i) (rule_at c.args.rules.now j))) (λ j. before c.args.rules.now j c.args.i)
-      c.loop-j.j c.loop-j.parts w.push_parts.new.parts c.loop-j.invariant (sym (c.before-in-loop-j.ensures c.args.rules.now c.requires.covers) ∙ w.if-before.true) w.in_ok-push_parts.ensures
+      c.loop-j.j c.loop-j.parts w.push_parts.new.parts c.loop-j.invariant (sym (c.before-in-loop-j.ensures c.args.rules.now c.requires.known.covers) ∙ w.if-before.true) w.in_ok-push_parts.ensures
   | else-before w ↦
       w.parts-is ∙ left_out (λ j. map (unless_of c.args.rules.now c.args.i j) (used_maps (rule_at c.args.rules.now c.args.i) (rule_at c.args.rules.now j))) (λ j. before c.args.rules.now j c.args.i)
-      c.loop-j.j c.loop-j.parts c.loop-j.invariant (sym (c.before-in-loop-j.ensures c.args.rules.now c.requires.covers) ∙ w.if-before.false)
+      c.loop-j.j c.loop-j.parts c.loop-j.invariant (sym (c.before-in-loop-j.ensures c.args.rules.now c.requires.known.covers) ∙ w.if-before.false)
 ]

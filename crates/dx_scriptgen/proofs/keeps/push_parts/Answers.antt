@@ -21,7 +21,7 @@ second : (c : After-deref) → rule_at c.args.rules.now c.args.j ∈ c.args.rule
 second c = in_at c.args.rules.now c.args.j _ c.requires.second
 
 maps : (c : After-deref) → c.maps-map-items.result.now ≡ used_maps (rule_at c.args.rules.now c.args.i) (rule_at c.args.rules.now c.args.j)
-maps c = c.maps-map-items.ensures.used c.args.rules.now c.requires.covers
+maps c = c.maps-map-items.ensures.used c.args.rules.now c.requires.known.covers
 
 used : (c : After-deref) → c.map-item.result ∈ used_maps (rule_at c.args.rules.now c.args.i) (rule_at c.args.rules.now c.args.j)
 used c = subst (λ z. c.map-item.result ∈ z) (maps c) (subst (λ z. z ∈ c.maps-map-items.result.now) (sym c.map-item.is) (in_at c.maps-map-items.result.now c.loop-map.map-index c.map-item.result c.loop-map-test.true))
@@ -31,19 +31,19 @@ others c = c.deref.ensures.value ∙ (c.in_ok-others.ensures ∙ ap exported (c.
 
 pub tests_of-requires-clause-known : goal.tests_of-requires-clause-known
 tests_of-requires-clause-known c = λ x m.
-    known_among c.args.rules.now (rule_at c.args.rules.now c.args.i) (rule_at c.args.rules.now c.args.j) c.map-item.result c.requires.widths (first c) (second c) (used c) x
+    known_among c.args.rules.now (rule_at c.args.rules.now c.args.i) (rule_at c.args.rules.now c.args.j) c.map-item.result c.requires.known.widths (first c) (second c) (used c) x
     (rw c.items.ensures at m)
 
 pub tests_of-requires-clause-own : goal.tests_of-requires-clause-own
 tests_of-requires-clause-own c =
     let l = as_long (rule_at c.args.rules.now c.args.i) (rule_at c.args.rules.now c.args.j) c.map-item.result (used c) in
-    let f = exported_few (rule_at c.args.rules.now c.args.i) (c.requires.rules (rule_at c.args.rules.now c.args.i) (first c)) in
+    let f = exported_few (rule_at c.args.rules.now c.args.i) (c.requires.known.rules (rule_at c.args.rules.now c.args.i) (first c)) in
     let e = ap length c.items.ensures in
     omega (arith, l, f, e)
 
 pub tests_of-requires-clause-few : goal.tests_of-requires-clause-few
 tests_of-requires-clause-few c =
-    let f = exported_few (rule_at c.args.rules.now c.args.j) (c.requires.rules (rule_at c.args.rules.now c.args.j) (second c)) in
+    let f = exported_few (rule_at c.args.rules.now c.args.j) (c.requires.known.rules (rule_at c.args.rules.now c.args.j) (second c)) in
     let e = ap length (others c) in
     omega (arith, f, e)
 
@@ -53,7 +53,7 @@ loop-map-preserved c =
     let i = rule_at R c.args.i in
     let j = rule_at R c.args.j in
     let m = c.map-item.result in
-    let all : c.maps-map-items.result.now ≡ used_maps i j = c.maps-map-items.ensures.used R c.requires.covers in
+    let all : c.maps-map-items.result.now ≡ used_maps i j = c.maps-map-items.ensures.used R c.requires.known.covers in
     let within : c.loop-map.map-index < length (used_maps i j) = rw (← all) c.loop-map-test.true in
     let is : m ≡ get_or (used_maps i j) c.loop-map.map-index m = subst (λ z. m ≡ get_or z c.loop-map.map-index m) all c.map-item.is in
     let u : m ∈ used_maps i j = item_in (used_maps i j) c.loop-map.map-index m within is in

@@ -15,7 +15,7 @@ returns-then-variable-firsts g c = λ all e.
 pub by_code-requires : goal.by_code-requires
 by_code-requires g c =
     let within : c.args.variable - length c.args.firsts.now < length c.args.rule.now.derived = omega (arith, c.if-variable-firsts.false, c.requires.known, c.requires.firsts) in
-    code_listed (offered c.args.host.now) c.args.rule.now (c.args.variable - length c.args.firsts.now) c.index-items-variable.result c.requires.listed within
+    code_listed (offered c.args.host.now) c.args.rule.now (c.args.variable - length c.args.firsts.now) c.index-items-variable.result (λ e m. (c.requires.calls e m).listed) within
     (rw c.items.ensures at c.index-items-variable.is)
 
 pub cells_at-requires : goal.cells_at-requires
@@ -24,7 +24,7 @@ cells_at-requires g c =
     let within : place < length c.args.rule.now.derived = omega (arith, c.if-variable-firsts.false, c.requires.known, c.requires.firsts) in
     let e : Derived = c.index-items-variable.result in
     let member : e ∈ c.args.rule.now.derived = subst (λ z. z ∈ c.args.rule.now.derived) (sym (rw c.items.ensures at c.index-items-variable.is)) (in_at c.args.rule.now.derived place e within) in
-    λ x m. let h = c.requires.arguments e member x (rw c.items-2.ensures at m) in omega (arith, h, c.requires.firsts)
+    λ x m. let h = (c.requires.calls e member).within x (rw c.items-2.ensures at m) in omega (arith, h, c.requires.firsts)
 
 pub returns : goal.returns
 returns g c = λ all q.
@@ -35,4 +35,4 @@ returns g c = λ all q.
     let member : e ∈ c.args.rule.now.derived = subst (λ z. z ∈ c.args.rule.now.derived) (sym is) (in_at c.args.rule.now.derived place e within) in
     call_selected (offered c.args.host.now) all c.args.rule.now c.args.variable place c.args.firsts.now c.in_ok-copy.field-0 c.in_ok-cells_at.field-0 e q c.if-variable-firsts.false c.requires.known (omega arith) is
     (c.in_ok-copy.ensures ∙ c.by_code.ensures.name)
-    (λ y m. let h = c.requires.arguments e member y m in omega (arith, h, c.requires.firsts)) (λ none. rw c.items-2.ensures at (c.in_ok-cells_at.ensures none))
+    (λ y m. let h = (c.requires.calls e member).within y m in omega (arith, h, c.requires.firsts)) (λ none. rw c.items-2.ensures at (c.in_ok-cells_at.ensures none))

@@ -6,6 +6,9 @@ use Rattle.dx_model.specs.Rules.{cells_of, exported}
 use Rattle.dx_model.proofs.Canonical.{exported_exactly}
 use Rattle.dx_scriptgen.proofs.matches.selects.Goals as goal
 
+pub select_of-requires-clause-calls : goal.select_of-requires-clause-calls
+select_of-requires-clause-calls g c = λ e m. record { listed = c.requires.listed e m; within = c.requires.rule.derived e m }
+
 pub select_of-requires-clause-known : goal.select_of-requires-clause-known
 select_of-requires-clause-known g c =
     let x : ℕ = get_or c.deref-variable-items.result.now c.loop-variable.variable-index 0 in

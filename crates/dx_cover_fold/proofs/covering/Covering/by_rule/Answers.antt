@@ -17,8 +17,8 @@ pub by_map-requires-clause-number : goal.by_map-requires-clause-number
 by_map-requires-clause-number c =
     ap (λ (l : List CellMap). get_or l c.loop-number.number no_map) (sym (c.maps-maps.ensures.used c.args.self.now.rules.now c.requires.covers)) ∙ get_or_default c.maps-maps.result.now c.loop-number.number no_map c.index-maps-number.result c.loop-number-test.true ∙ sym c.index-maps-number.is
 
-pub by_map-requires-clause-many : goal.by_map-requires-clause-many
-by_map-requires-clause-many c = ap length c.deref.ensures.value ∙ c.loop-number.invariant.0 ∙ c.requires.many
+pub by_map-requires-clause-begun : goal.by_map-requires-clause-begun
+by_map-requires-clause-begun c = record { own = c.requires.begun.own; many = ap length c.deref.ensures.value ∙ c.loop-number.invariant.0 ∙ c.requires.begun.many }
 
 pub returns-clause-finds : goal.returns-clause-finds
 returns-clause-finds c = λ C p.

@@ -5,6 +5,9 @@ use Rattle.dx_cover_fold.proofs.CoverFacts.{choices_below, rule_more, rule_past}
 use Rattle.dx_cover_fold.proofs.covering.Covering.least.Goals as goal
 use Rattle.dx_cover_fold.proofs.covering.Covering.least.Goals.{then-before+in_ok-found-2, else-before}
 
+pub by_rule-requires-clause-begun : goal.by_rule-requires-clause-begun
+by_rule-requires-clause-begun c = record { own = c.requires.own; many = c.loop-other.invariant.0 }
+
 pub loop-other-preserved : goal.loop-other-preserved
 loop-other-preserved c = elim c.if-before.branch [
   | then-before+in_ok-found-2 w ↦

@@ -14,19 +14,20 @@ loop-one-init g c =
     let e : c.extend_from_slice.new.self.items ≡ c.args.row.now = c.in_ok-extend_from_slice.ensures.items ∙ ap (λ (l : List ℕ). l ++ c.args.row.now) c.clear.ensures.items in
     record {
       grows = stays c.args.symbols.now;
-      apart = c.requires.apart;
-      texts = subst (λ (l : List ℕ). AreTexts c.args.symbols.now l) (sym e) c.requires.texts;
+      apart = c.requires.row.apart;
+      texts = subst (λ (l : List ℕ). AreTexts c.args.symbols.now l) (sym e) c.requires.row.texts;
       shown = ap (texts_of c.args.symbols.now) e ∙ sym (append-nil (texts_of c.args.symbols.now c.args.row.now));
     }
 
-pub derived_number-requires-clause-listed : goal.derived_number-requires-clause-listed
-derived_number-requires-clause-listed g c = c.requires.listed _ (item_in c.args.self.now.derived.now c.loop-one.one-index c.one-item.result c.loop-one-test.true c.one-item.is)
+pub derived_number-requires-clause-computed : goal.derived_number-requires-clause-computed
+derived_number-requires-clause-computed g c = c.requires.computed _ (item_in c.args.self.now.derived.now c.loop-one.one-index c.one-item.result c.loop-one-test.true c.one-item.is)
 
-pub derived_number-requires-clause-known : goal.derived_number-requires-clause-known
-derived_number-requires-clause-known g c = c.requires.known _ (item_in c.args.self.now.derived.now c.loop-one.one-index c.one-item.result c.loop-one-test.true c.one-item.is)
-
-pub derived_number-requires-clause-texts : goal.derived_number-requires-clause-texts
-derived_number-requires-clause-texts g c = texts_grow c.args.symbols.now c.loop-one.symbols c.args.row.now c.loop-one.invariant.grows c.requires.texts
+pub derived_number-requires-clause-row : goal.derived_number-requires-clause-row
+derived_number-requires-clause-row g c = record {
+  apart = c.loop-one.invariant.apart;
+  many = c.requires.row.many;
+  texts = texts_grow c.args.symbols.now c.loop-one.symbols c.args.row.now c.loop-one.invariant.grows c.requires.row.texts;
+}
 
 pub returns-in_err-number-clause-grows : goal.returns-in_err-number-clause-grows
 returns-in_err-number-clause-grows g c = extends_both c.args.symbols.now c.loop-one.symbols c.derived_number.new.symbols c.loop-one.invariant.grows c.derived_number.ensures.grows
@@ -38,7 +39,7 @@ pub loop-one-preserved : goal.loop-one-preserved
 loop-one-preserved g c =
     let inv = c.loop-one.invariant in
     let more = derive_more g.M.Meaning.apply c.args.self.now.wanted.now c.args.self.now.derived.now c.args.row.now c.loop-one.buffer.items c.loop-one.one-index c.one-item.result c.in_ok-number.number c.args.symbols.now c.loop-one.symbols c.derived_number.new.symbols
-    c.loop-one-test.true c.one-item.is inv.grows c.derived_number.ensures.grows c.requires.texts inv.texts c.in_ok-number.ensures.within c.in_ok-number.ensures.value inv.shown in
+    c.loop-one-test.true c.one-item.is inv.grows c.derived_number.ensures.grows c.requires.row.texts inv.texts c.in_ok-number.ensures.within c.in_ok-number.ensures.value inv.shown in
     record {
       grows = extends_both c.args.symbols.now c.loop-one.symbols c.derived_number.new.symbols inv.grows c.derived_number.ensures.grows;
       apart = c.derived_number.ensures.apart;

@@ -1,10 +1,17 @@
-use Rattle.std.proofs.Common.{◌⊎◌, subst, arith, ℕ, List}
+use Rattle.std.proofs.Common.{◌∙◌, ◌⊎◌, subst, arith, ℕ, List}
 use Rattle.dx_ports.specs.Members.{◌∈◌}
 use Rattle.dx_instance.specs.Shown.{numbers_of_table}
 use Rattle.dx_joins.specs.Collecting.{CollectsRows, MoreThan}
 use Rattle.dx_joins.specs.Planning.{PairsWith}
 use Rattle.dx_joins.proofs.ByPlace.{by_more, by_full, by_all}
 use Rattle.dx_joins.proofs.join.Pairing.join.Goals as goal
+
+pub join_left-requires-clause-ready : goal.join_left-requires-clause-ready
+join_left-requires-clause-ready c = record {
+  plan = c.requires.plan;
+  left = c.row-left.ensures.width ∙ c.requires.left;
+  width = c.loop-place.invariant.width ∙ c.requires.width;
+}
 
 pub returns-then-branch : goal.returns-then-branch
 returns-then-branch c =

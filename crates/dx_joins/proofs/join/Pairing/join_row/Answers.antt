@@ -22,10 +22,17 @@ loop-place-init c =
     let next : IsNextInBucket keys m (key % m) 0 c.first-place.result = rw at (c.requires.index.head (key % m) (below_mod key m some)) in
     record {
       gains = by_skip (λ s t. Pairs p c.args.self.now.marks.now c.args.left.now s t) rows c.args.out.now c.args.out.now 0 c.first-place.result (omega arith)
-          (λ q i j. other_bucket p c.args.self.now.marks.now rows c.args.left.now m q c.requires.plan (let w = next.within in omega (arith, w, j, keys_long p.by_right.items rows)) (next.skips q i j))
+          (λ q i j. other_bucket p c.args.self.now.marks.now rows c.args.left.now m q c.requires.ready.plan (let w = next.within in omega (arith, w, j, keys_long p.by_right.items rows)) (next.skips q i j))
           (by_none (λ s t. Pairs p c.args.self.now.marks.now c.args.left.now s t) rows c.args.out.now);
       next = next_self keys m (key % m) 0 c.first-place.result next;
     }
+
+pub join_pair-requires-clause-ready : goal.join_pair-requires-clause-ready
+join_pair-requires-clause-ready c = record {
+  plan = c.requires.ready.plan;
+  left = c.requires.ready.left;
+  width = c.loop-place.invariant.gains.width ∙ c.requires.ready.width;
+}
 
 pub returns-then-branch : goal.returns-then-branch
 returns-then-branch c =
@@ -51,7 +58,7 @@ loop-place-preserved c =
     (subst (λ (r : List ℕ). CollectsRows c.loop-place.out c.join_pair.new.out (E r)) c.row-right.ensures.row more) in
     record {
       gains = by_skip E rows c.args.out.now c.join_pair.new.out (place + 1) c.next-place.result next.after
-          (λ q i j. other_bucket p c.args.self.now.marks.now rows c.args.left.now m q c.requires.plan (let w = next.within in omega (arith, w, j, keys_long p.by_right.items rows)) (next.skips q i j))
+          (λ q i j. other_bucket p c.args.self.now.marks.now rows c.args.left.now m q c.requires.ready.plan (let w = next.within in omega (arith, w, j, keys_long p.by_right.items rows)) (next.skips q i j))
           gains;
       next = next_self keys m (key % m) (place + 1) c.next-place.result next;
     }
