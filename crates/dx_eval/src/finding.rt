@@ -1,14 +1,13 @@
 // The match tables of a script, within a limit on the cells that are inserted.
-ghost use Rattle.std.specs.Prelude.{◌≡◌, ◌↔◌, ◌<◌, ◌≤◌, ◌*◌, ◌^◌, ℕ, IfOk, IfErr, MatchOption, OnOk, Some, [], length};
+ghost use Rattle.std.specs.Prelude.{◌≡◌, ◌↔◌, ◌<◌, ◌≤◌, ◌*◌, ◌^◌, ℕ, IfOk, IfErr, MatchOption, Some, length};
 ghost use Rattle.dx_ports.specs.declared.file.Count.TheVariants.{TargetCells};
 ghost use Rattle.dx_ports.specs.Members.{Each};
 ghost use Rattle.dx_schema.specs.Names.{table_names_of};
-ghost use Rattle.dx_schema.specs.Tables.{schema_widths};
 ghost use Rattle.dx_funcs.specs.Names.{call_named};
 ghost use Rattle.dx_funcs.specs.Serving.{Serves, offered};
 ghost use Rattle.dx_instance.specs.Numbers.{AreDistinctValues, Extends};
 ghost use Rattle.dx_instance.specs.Shown.{shown_tables};
-ghost use Rattle.dx_instance.specs.Stored.{facts, widths};
+ghost use Rattle.dx_instance.specs.Stored.{facts};
 ghost use Rattle.dx_tgd.specs.Texts.{tuples_in};
 ghost use Rattle.dx_eval.specs.declared.fault.EvalFault.TheVariants.{Limit as Refused};
 ghost use Rattle.dx_eval.specs.Evaluating.{cells_for, inserted_cells, script_cells};
@@ -17,10 +16,10 @@ ghost use Rattle.dx_eval.specs.Finding.{AreFoundSteps, IsFoundUpTo, IsEvalRefusa
 use crate::fault::EvalFault;
 use crate::found::Found;
 use crate::matching::step_rows;
-use dx_funcs::{Host, Meaning};
-use dx_instance::{Numbers, Rows, Symbols};
+use crate::source::Source;
+use dx_funcs::Meaning;
+use dx_instance::{Rows, Symbols};
 use dx_ports::{Count, Items, Limit, Text};
-use dx_schema::Schema;
 use dx_script::Step;
 use std::alloc::{AllocError, Global};
 
@@ -95,23 +94,22 @@ fn within(found: Option<Rows>, room: u64, limit: u64) -> Result<Rows, EvalFault>
 // a step of another kind.
 fn matched_rows<F: Fn(u32, &Items<Text>) -> Result<Text, AllocError>, M: Meaning>(
     alloc: Global,
-    source: &Schema,
-    rows: &Numbers,
-    host: &Host<F, M>,
+    source: &Source<'_, '_, F, M>,
     step: &Step,
     symbols: &mut Symbols,
     most: u64,
 ) -> Result<Option<Rows>, AllocError>
-    requires serves { Serves F.Fn M.apply host.now }
-    requires widths { widths (shown_tables rows.now.symbols rows.now.tables) ≡ schema_widths source.now }
-    requires fit { Each (matching_in step.now) (MatchingFits (table_names_of source.now) (offered host.now)) }
-    requires symbols { Extends rows.now.symbols symbols.old }
-    requires apart { AreDistinctValues symbols.old }
+    requires serves { Serves F.Fn M.apply source.now.host.now }
+    requires fit { Each (matching_in step.now) (MatchingFits (table_names_of source.now.schema.now) (offered source.now.host.now)) }
+    requires symbols { Extends source.now.rows.now.symbols symbols.old }
     ensures grows { Extends symbols.old symbols.new }
     ensures apart { AreDistinctValues symbols.new }
-    ensures rows { IfOk result (λ o. Each (matching_in step.now) (IsFoundUpTo most (table_names_of source.now)
-        (call_named M.apply (offered host.now)) (facts (shown_tables rows.now.symbols rows.now.tables)) symbols.new o)) }
+    ensures rows { IfOk result (λ o. Each (matching_in step.now) (IsFoundUpTo most (table_names_of source.now.schema.now)
+        (call_named M.apply (offered source.now.host.now)) (facts (shown_tables source.now.rows.now.symbols source.now.rows.now.tables))
+        symbols.new o)) }
 {
+    // The call tells that no value has two numbers.
+    let _few = symbols.len();
     match step {
         Step::MatchRows {
             select,
@@ -121,8 +119,6 @@ fn matched_rows<F: Fn(u32, &Items<Text>) -> Result<Text, AllocError>, M: Meaning
         } => step_rows(
             alloc,
             source,
-            rows,
-            host,
             select.items(),
             sources.items(),
             equal.items(),
@@ -133,43 +129,6 @@ fn matched_rows<F: Fn(u32, &Items<Text>) -> Result<Text, AllocError>, M: Meaning
     }
 }
 
-// Adds the tuples of each match step, as rows of numbers. A step may have as many as the limit leaves room for.
-fn find_steps<F: Fn(u32, &Items<Text>) -> Result<Text, AllocError>, M: Meaning>(
-    alloc: Global,
-    steps: &[Step],
-    source: &Schema,
-    rows: &Numbers,
-    symbols: &mut Symbols,
-    tables: &mut Vec<Rows>,
-    host: &Host<F, M>,
-    limit: u64,
-) -> Result<(), EvalFault>
-    requires serves { Serves F.Fn M.apply host.now }
-    requires widths { widths (shown_tables rows.now.symbols rows.now.tables) ≡ schema_widths source.now }
-    requires fit { MatchesFit (table_names_of source.now) (offered host.now) steps.now }
-    requires apart { AreDistinctValues rows.now.symbols }
-    requires symbols { symbols.old ≡ rows.now.symbols }
-    requires none { tables.old.items ≡ [] }
-    ensures found { OnOk result (AreFoundSteps (table_names_of source.now) (call_named M.apply (offered host.now))
-        (facts (shown_tables rows.now.symbols rows.now.tables)) symbols.new (matchings steps.now) tables.new.items) }
-    ensures within { OnOk result (script_cells steps.now (tuples_in symbols.new tables.new.items) ≤ limit) }
-    ensures refused { IfErr result (IsEvalRefusal (table_names_of source.now) (call_named M.apply (offered host.now)) steps.now
-        (facts (shown_tables rows.now.symbols rows.now.tables)) limit) }
-{
-    let mut left = limit;
-    for step in steps {
-        if let Step::MatchRows { rule, .. } = step {
-            let cells = rule_cells(steps, *rule)?;
-            let room = room_for(left, cells);
-            let found = matched_rows(alloc, source, rows, host, step, symbols, room)?;
-            let table = within(found, room, limit)?;
-            left -= table.count() as u64 * cells;
-            tables.push(table)?;
-        }
-    }
-    Ok(())
-}
-
 /// The tuples of each match step, as rows of numbers. A step may have as many as the limit leaves room for.
 ///
 /// # Errors
@@ -178,32 +137,33 @@ fn find_steps<F: Fn(u32, &Items<Text>) -> Result<Text, AllocError>, M: Meaning>(
 pub(crate) fn found_steps<F: Fn(u32, &Items<Text>) -> Result<Text, AllocError>, M: Meaning>(
     alloc: Global,
     steps: &[Step],
-    source: &Schema,
-    rows: &Numbers,
-    host: &Host<F, M>,
+    source: &Source<'_, '_, F, M>,
     limit: u64,
 ) -> Result<Found, EvalFault>
-    requires serves { Serves F.Fn M.apply host.now }
-    requires widths { widths (shown_tables rows.now.symbols rows.now.tables) ≡ schema_widths source.now }
-    requires fit { MatchesFit (table_names_of source.now) (offered host.now) steps.now }
-    requires apart { AreDistinctValues rows.now.symbols }
-    ensures found { IfOk result (λ f. AreFoundSteps (table_names_of source.now) (call_named M.apply (offered host.now))
-        (facts (shown_tables rows.now.symbols rows.now.tables)) f.symbols (matchings steps.now) f.tables.items) }
+    requires serves { Serves F.Fn M.apply source.now.host.now }
+    requires fit { MatchesFit (table_names_of source.now.schema.now) (offered source.now.host.now) steps.now }
+    ensures found { IfOk result (λ f. AreFoundSteps (table_names_of source.now.schema.now)
+        (call_named M.apply (offered source.now.host.now))
+        (facts (shown_tables source.now.rows.now.symbols source.now.rows.now.tables)) f.symbols (matchings steps.now) f.tables.items) }
     ensures within { IfOk result (λ f. script_cells steps.now (tuples_in f.symbols f.tables.items) ≤ limit) }
-    ensures refused { IfErr result (IsEvalRefusal (table_names_of source.now) (call_named M.apply (offered host.now)) steps.now
-        (facts (shown_tables rows.now.symbols rows.now.tables)) limit) }
+    ensures refused { IfErr result (IsEvalRefusal (table_names_of source.now.schema.now)
+        (call_named M.apply (offered source.now.host.now)) steps.now
+        (facts (shown_tables source.now.rows.now.symbols source.now.rows.now.tables)) limit) }
 {
-    let mut symbols = rows.copy_symbols(alloc)?;
+    // The call tells that no value has two numbers.
+    let _few = source.rows.len();
+    let mut symbols = source.rows.copy_symbols(alloc)?;
     let mut tables = Vec::new(alloc);
-    find_steps(
-        alloc,
-        steps,
-        source,
-        rows,
-        &mut symbols,
-        &mut tables,
-        host,
-        limit,
-    )?;
+    let mut left = limit;
+    for step in steps {
+        if let Step::MatchRows { rule, .. } = step {
+            let cells = rule_cells(steps, *rule)?;
+            let room = room_for(left, cells);
+            let found = matched_rows(alloc, source, step, &mut symbols, room)?;
+            let table = within(found, room, limit)?;
+            left -= table.count() as u64 * cells;
+            tables.push(table)?;
+        }
+    }
     Ok(Found { symbols, tables })
 }

@@ -1,27 +1,26 @@
 // What insert steps make of the places that keep steps leave.
-ghost use Rattle.std.specs.Prelude.{◌≡◌, ◌↔◌, ◌<◌, ℕ, List, [], IfOk, OnOk, IsTrue, Bool, length, map, slice_index};
+ghost use Rattle.std.specs.Prelude.{◌≡◌, ◌↔◌, ◌<◌, List, IfOk, OnOk, Bool, length, map};
 ghost use Rattle.dx_ports.specs.Members.{◌∈◌, Each};
 ghost use Rattle.dx_ports.specs.Texts.{Text as AnyText};
 ghost use Rattle.dx_model.specs.declared.facts.Fact.{Fact as AnyFact};
 ghost use Rattle.dx_schema.specs.Names.{table_names_of};
 ghost use Rattle.dx_schema.specs.Tables.{schema_widths};
 ghost use Rattle.dx_instance.specs.Numbers.{Extends};
-ghost use Rattle.dx_instance.specs.Shown.{AreBelow, numbers_of_table, shown_row};
+ghost use Rattle.dx_instance.specs.Shown.{AreBelow, shown_row};
 ghost use Rattle.dx_instance.specs.Stored.{facts, widths};
 ghost use Rattle.dx_joins.specs.Shown.{AreTexts, texts_of};
 ghost use Rattle.dx_tgd.specs.Gained.{GainsFacts};
 ghost use Rattle.dx_tgd.specs.Planned.{StandsAs, built};
 ghost use Rattle.dx_tgd.specs.Texts.{tuples_in};
 ghost use Rattle.dx_script.specs.declared.form.Out.{Out as AnyOut};
-ghost use Rattle.dx_script.specs.declared.form.Unless.{Unless as AnyUnless};
-ghost use Rattle.dx_script.specs.declared.form.Step.TheVariants.{InsertRows, KeepRows};
+ghost use Rattle.dx_script.specs.declared.form.Step.TheVariants.{InsertRows};
 ghost use Rattle.dx_script.specs.Meaning.{IsInserted, inserted};
-ghost use Rattle.dx_eval.specs.Keeping.{PartStands};
-ghost use Rattle.dx_eval.specs.Inserting.{InsertStands, OutStands, facts_by, placed_fact};
+ghost use Rattle.dx_eval.specs.Inserting.{CellsFitTable, HasNoFacts, InsertStands, OutStands, StepsStand, facts_by, placed_fact};
 
 use crate::builder::Builder;
 use crate::keeping::stay_places;
 use crate::names::table_number;
+use crate::rule_tables::RuleTables;
 use dx_instance::{NullId, Rows, Value};
 use dx_schema::Schema;
 use dx_script::{Out, Step};
@@ -76,28 +75,39 @@ fn fill(
     Ok(())
 }
 
+// Some places of a rule's match table.
+#[derive(Clone, Copy)]
+struct RulePlaces<'a> {
+    rule: u32,
+    rows: &'a Rows,
+    places: &'a [u32],
+    ghost within: { Each places.now (λ k. k < length rows.now.rows) },
+}
+
 // Adds what an insert step makes of these places.
 fn insert_places(
     alloc: Global,
     cells: &[Out],
     table: u32,
-    rule: u32,
-    rows: &Rows,
-    places: &[u32],
+    at: &RulePlaces<'_>,
     target: &mut Builder,
 ) -> Result<(), AllocError>
-    requires stand { Each cells.now (OutStands rows.now.width) }
-    requires texts { Each rows.now.rows (AreTexts target.old.symbols) }
-    requires places { Each places.now (λ k. k < length rows.now.rows) }
-    requires table { table < length (built target.old) }
-    requires width { length cells.now ≡ slice_index (widths (built target.old)) table }
+    requires cells { CellsFitTable (built target.old) table at.now.rows.now.width cells.now }
+    requires texts { Each at.now.rows.now.rows (AreTexts target.old.symbols) }
     ensures grows { OnOk result (Extends target.old.symbols target.new.symbols) }
     ensures gained { OnOk result (GainsFacts (built target.old) (built target.new)
-        (map (placed_fact table rule (map (texts_of target.old.symbols) rows.now.rows) cells.now) places.now)) }
+        (map (placed_fact table at.now.rule (map (texts_of target.old.symbols) at.now.rows.now.rows) cells.now) at.now.places.now)) }
 {
     let mut buffer = Vec::new(alloc);
-    for place in places {
-        fill(cells, rule, *place, rows.row(*place), &mut buffer, target)?;
+    for place in at.places {
+        fill(
+            cells,
+            at.rule,
+            *place,
+            at.rows.row(*place),
+            &mut buffer,
+            target,
+        )?;
         target.add(table, &buffer)?;
     }
     Ok(())
@@ -108,19 +118,17 @@ fn insert_rule(
     alloc: Global,
     steps: &[Step],
     schema: &Schema,
-    rule: u32,
-    rows: &Rows,
-    places: &[u32],
+    at: &RulePlaces<'_>,
     target: &mut Builder,
 ) -> Result<(), AllocError>
-    requires stand { (table : AnyText) (kept : Bool) (cells : List AnyOut) → InsertRows table rule kept cells ∈ steps.now
-        → InsertStands (table_names_of schema.now) rows.now.width table cells }
-    requires texts { Each rows.now.rows (AreTexts target.old.symbols) }
-    requires places { Each places.now (λ k. k < length rows.now.rows) }
+    requires stand { (table : AnyText) (kept : Bool) (cells : List AnyOut) → InsertRows table at.now.rule kept cells ∈ steps.now
+        → InsertStands (table_names_of schema.now) at.now.rows.now.width table cells }
+    requires texts { Each at.now.rows.now.rows (AreTexts target.old.symbols) }
     requires widths { widths (built target.old) ≡ schema_widths schema.now }
     ensures grows { OnOk result (Extends target.old.symbols target.new.symbols) }
     ensures gained { OnOk result (GainsFacts (built target.old) (built target.new)
-        (facts_by (table_names_of schema.now) steps.now rule (map (texts_of target.old.symbols) rows.now.rows) places.now)) }
+        (facts_by (table_names_of schema.now) steps.now at.now.rule
+        (map (texts_of target.old.symbols) at.now.rows.now.rows) at.now.places.now)) }
 {
     for step in steps {
         if let Step::InsertRows {
@@ -130,9 +138,9 @@ fn insert_rule(
             ..
         } = step
         {
-            if *number == rule {
+            if *number == at.rule {
                 let table = table_number(schema, table);
-                insert_places(alloc, cells.items(), table, rule, rows, places, target)?;
+                insert_places(alloc, cells.items(), table, at, target)?;
             }
         }
     }
@@ -152,13 +160,8 @@ pub(crate) fn insert_all(
     target: &mut Builder,
 ) -> Result<(), AllocError>
     requires texts { Each tables.now (λ t. Each t.rows (AreTexts target.old.symbols)) }
-    requires keeps { (r : ℕ) (unless : List AnyUnless) → KeepRows r unless ∈ steps.now → Each unless (PartStands tables.now r) }
-    requires inserts { (table : AnyText) (r : ℕ) (kept : Bool) (cells : List AnyOut) → InsertRows table r kept cells ∈ steps.now
-        → InsertStands (table_names_of schema.now) (numbers_of_table tables.now r).width table cells }
-    requires reads { (table : AnyText) (r : ℕ) (kept : Bool) (cells : List AnyOut) (unless : List AnyUnless)
-        → InsertRows table r kept cells ∈ steps.now → KeepRows r unless ∈ steps.now → IsTrue kept }
-    requires widths { widths (built target.old) ≡ schema_widths schema.now }
-    requires empty { facts (built target.old) ≡ [] }
+    requires steps { StepsStand (table_names_of schema.now) steps.now tables.now }
+    requires empty { HasNoFacts (schema_widths schema.now) (built target.old) }
     ensures widths { OnOk result (widths (built target.new) ≡ schema_widths schema.now) }
     ensures facts { OnOk result ((f : AnyFact) → (f ∈ facts (built target.new))
         ↔ IsInserted (table_names_of schema.now) steps.now (tuples_in target.old.symbols tables.now) f) }
@@ -167,16 +170,18 @@ pub(crate) fn insert_all(
         return Err(AllocError);
     }
     for rule in 0..tables.len() {
-        let places = stay_places(alloc, steps, rule as u32, tables, target.symbols())?;
-        insert_rule(
-            alloc,
-            steps,
-            schema,
-            rule as u32,
-            &tables[rule],
-            &places,
-            target,
-        )?;
+        let own = RuleTables {
+            rule: rule as u32,
+            tables,
+            symbols: target.symbols(),
+        };
+        let places = stay_places(alloc, steps, &own)?;
+        let at = RulePlaces {
+            rule: rule as u32,
+            rows: &tables[rule],
+            places: &places,
+        };
+        insert_rule(alloc, steps, schema, &at, target)?;
     }
     Ok(())
 }

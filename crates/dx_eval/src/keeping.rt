@@ -2,7 +2,7 @@
 ghost use Rattle.std.specs.Prelude.{◌≡◌, ◌↔◌, ◌<◌, ℕ, List, IfOk, IsTrue, length};
 ghost use Rattle.dx_ports.specs.Members.{◌∈◌, Each};
 ghost use Rattle.dx_model.specs.declared.values.Value.TheVariants.{Const};
-ghost use Rattle.dx_instance.specs.Numbers.{AreDistinctValues, value_of};
+ghost use Rattle.dx_instance.specs.Numbers.{value_of};
 ghost use Rattle.dx_instance.specs.Cells.{NumbersAscend};
 ghost use Rattle.dx_instance.specs.Shown.{numbers_of_table};
 ghost use Rattle.dx_joins.specs.Shown.{AreTexts, texts_of};
@@ -13,6 +13,7 @@ ghost use Rattle.dx_eval.specs.Keeping.{HoldsAlone, LacksPartner, LacksPartners,
 ghost use Rattle.dx_eval.specs.Keeping.{column_numbers, own_columns};
 
 use crate::keys::{columns_of_other, columns_of_own, gather, has_row, keys_of};
+use crate::rule_tables::RuleTables;
 use dx_instance::{Rows, Symbols, Value};
 use dx_ports::Text;
 use dx_script::{Step, Test, Unless};
@@ -45,27 +46,36 @@ fn holds_alone(symbols: &Symbols, row: &[u32], tests: &[Test]) -> bool
     true
 }
 
-// Whether a tuple has a partner, whose compared columns are among the keys.
-fn has_partner(
-    symbols: &Symbols,
-    row: &[u32],
-    tests: &[Test],
-    columns: &[u32],
-    keys: &Rows,
-    buffer: &mut Vec<u32>,
-) -> Result<bool, AllocError>
-    requires texts { AreTexts symbols.now row.now }
-    requires stand { (width : ℕ) × Each tests.now (TestStands (length row.now) width) }
-    requires columns { columns.now ≡ own_columns tests.now }
-    requires ascend { NumbersAscend keys.now.rows }
-    ensures { IfOk result (λ b. IsTrue b
-        ↔ (Each tests.now (HoldsAlone (texts_of symbols.now row.now)) × (column_numbers columns.now row.now ∈ keys.now.rows))) }
-{
-    if !holds_alone(symbols, row, tests) {
-        return Ok(false);
+// How partners are looked up: the tests, the columns of a tuple's own that they compare, and the keys of the others.
+#[derive(Clone, Copy)]
+struct Lookup<'a> {
+    tests: &'a [Test],
+    columns: &'a [u32],
+    keys: &'a Rows,
+    ghost own: { columns.now ≡ own_columns tests.now },
+}
+
+impl<'a> Lookup<'a> {
+    // Whether a tuple has a partner, whose compared columns are among the keys.
+    fn has_partner(
+        &self,
+        symbols: &Symbols,
+        row: &[u32],
+        buffer: &mut Vec<u32>,
+    ) -> Result<bool, AllocError>
+        requires texts { AreTexts symbols.now row.now }
+        requires stand { (width : ℕ) × Each self.now.tests.now (TestStands (length row.now) width) }
+        requires ascend { NumbersAscend self.now.keys.now.rows }
+        ensures { IfOk result (λ b. IsTrue b
+            ↔ (Each self.now.tests.now (HoldsAlone (texts_of symbols.now row.now))
+            × (column_numbers self.now.columns.now row.now ∈ self.now.keys.now.rows))) }
+    {
+        if !holds_alone(symbols, row, self.tests) {
+            return Ok(false);
+        }
+        gather(row, self.columns, buffer)?;
+        Ok(has_row(self.keys, buffer))
     }
-    gather(row, columns, buffer)?;
-    Ok(has_row(keys, buffer))
 }
 
 // The places whose tuples have no partner by a part.
@@ -78,19 +88,24 @@ fn left_by_part(
     symbols: &Symbols,
 ) -> Result<Vec<u32>, AllocError>
     requires places { Each places.now (λ k. k < length own.now.rows) }
-    requires own { Each own.now.rows (AreTexts symbols.now) }
-    requires other { Each other.now.rows (AreTexts symbols.now) }
-    requires apart { AreDistinctValues symbols.now }
+    requires texts { Each own.now.rows (AreTexts symbols.now) × Each other.now.rows (AreTexts symbols.now) }
     requires stand { Each tests.now (TestStands own.now.width other.now.width) }
     ensures { IfOk result (λ v. KeepsPlaces (LacksPartner symbols.now own.now.rows other.now.rows tests.now) places.now v.items) }
 {
+    // The call tells that no value has two numbers.
+    let _few = symbols.len();
     let keys = keys_of(alloc, other, &columns_of_other(alloc, tests)?)?;
     let columns = columns_of_own(alloc, tests)?;
+    let lookup = Lookup {
+        tests,
+        columns: &columns,
+        keys: &keys,
+    };
     let mut left = Vec::new(alloc);
     let mut buffer = Vec::new(alloc);
     for place in places {
         let row = own.row(*place);
-        if !has_partner(symbols, row, tests, &columns, &keys, &mut buffer)? {
+        if !lookup.has_partner(symbols, row, &mut buffer)? {
             left.push(*place)?;
         }
     }
@@ -101,23 +116,19 @@ fn left_by_part(
 fn left_by_parts(
     alloc: Global,
     places: Vec<u32>,
-    rule: u32,
     unless: &[Unless],
-    tables: &[Rows],
-    symbols: &Symbols,
+    of: &RuleTables<'_>,
 ) -> Result<Vec<u32>, AllocError>
-    requires rule { rule < length tables.now }
-    requires places { Each places.items (λ k. k < length (numbers_of_table tables.now rule).rows) }
-    requires texts { Each tables.now (λ t. Each t.rows (AreTexts symbols.now)) }
-    requires apart { AreDistinctValues symbols.now }
-    requires stand { Each unless.now (PartStands tables.now rule) }
-    ensures { IfOk result (λ v. KeepsPlaces (LacksPartners symbols.now tables.now rule unless.now) places.items v.items) }
+    requires places { Each places.items (λ k. k < length (numbers_of_table of.now.tables.now of.now.rule).rows) }
+    requires stand { Each unless.now (PartStands of.now.tables.now of.now.rule) }
+    ensures { IfOk result (λ v.
+        KeepsPlaces (LacksPartners of.now.symbols.now of.now.tables.now of.now.rule unless.now) places.items v.items) }
 {
-    let own = &tables[rule as usize];
+    let own = &of.tables[of.rule as usize];
     let mut left = places;
     for part in unless {
-        let other = &tables[part.rule as usize];
-        left = left_by_part(alloc, &left, own, other, part.tests.items(), symbols)?;
+        let other = &of.tables[part.rule as usize];
+        left = left_by_part(alloc, &left, own, other, part.tests.items(), of.symbols)?;
     }
     Ok(left)
 }
@@ -141,25 +152,20 @@ fn all_places(alloc: Global, count: u32) -> Result<Vec<u32>, AllocError>
 pub(crate) fn stay_places(
     alloc: Global,
     steps: &[Step],
-    rule: u32,
-    tables: &[Rows],
-    symbols: &Symbols,
+    of: &RuleTables<'_>,
 ) -> Result<Vec<u32>, AllocError>
-    requires rule { rule < length tables.now }
-    requires texts { Each tables.now (λ t. Each t.rows (AreTexts symbols.now)) }
-    requires apart { AreDistinctValues symbols.now }
-    requires stand { (r : ℕ) (unless : List AnyUnless) → KeepRows r unless ∈ steps.now → Each unless (PartStands tables.now r) }
-    ensures { IfOk result (λ v. Stay steps.now (tuples_in symbols.now tables.now) rule v.items) }
+    requires { (r : ℕ) (unless : List AnyUnless) → KeepRows r unless ∈ steps.now → Each unless (PartStands of.now.tables.now r) }
+    ensures { IfOk result (λ v. Stay steps.now (tuples_in of.now.symbols.now of.now.tables.now) of.now.rule v.items) }
 {
-    let mut places = all_places(alloc, tables[rule as usize].count())?;
+    let mut places = all_places(alloc, of.tables[of.rule as usize].count())?;
     for step in steps {
         if let Step::KeepRows {
             rule: number,
             unless,
         } = step
         {
-            if *number == rule {
-                places = left_by_parts(alloc, places, rule, unless.items(), tables, symbols)?;
+            if *number == of.rule {
+                places = left_by_parts(alloc, places, unless.items(), of)?;
             }
         }
     }

@@ -22,7 +22,9 @@ mod made;
 mod matching;
 mod names;
 mod query;
+mod rule_tables;
 mod run;
+mod source;
 mod variables;
 
 pub use fault::EvalFault;

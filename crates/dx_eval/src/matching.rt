@@ -1,24 +1,21 @@
 // The tuples of a match step, as rows of numbers.
-ghost use Rattle.std.specs.Prelude.{◌≡◌, ◌<◌, [], ◌∷◌, IfOk, MatchOption, length};
-ghost use Rattle.dx_ports.specs.Members.{◌∈◌, Each};
+ghost use Rattle.std.specs.Prelude.{◌≡◌, [], ◌∷◌, IfOk, MatchOption, length};
 ghost use Rattle.dx_schema.specs.Names.{table_names_of};
-ghost use Rattle.dx_schema.specs.Tables.{schema_widths};
 ghost use Rattle.dx_funcs.specs.Names.{call_named};
 ghost use Rattle.dx_funcs.specs.Serving.{Serves, offered};
 ghost use Rattle.dx_instance.specs.Numbers.{AreDistinctValues, Extends};
 ghost use Rattle.dx_instance.specs.Shown.{shown_tables};
-ghost use Rattle.dx_instance.specs.Stored.{facts, widths};
+ghost use Rattle.dx_instance.specs.Stored.{facts};
 ghost use Rattle.dx_joins.specs.Shown.{MoreTuples, StandFor};
-ghost use Rattle.dx_script.specs.Fits.{SelectFits, EqualFits};
-ghost use Rattle.dx_script.specs.Names.{table_names};
+ghost use Rattle.dx_eval.specs.Finding.{MatchingFits};
 ghost use Rattle.dx_eval.specs.Query.{IsSelected};
 
 use crate::query::Query;
-use dx_funcs::{Host, Meaning};
-use dx_instance::{Numbers, Rows, Symbols};
+use crate::source::Source;
+use dx_funcs::Meaning;
+use dx_instance::{Rows, Symbols};
 use dx_joins::shown_rows;
 use dx_ports::{Items, Text};
-use dx_schema::Schema;
 use dx_script::{Equal, Select};
 use std::alloc::{AllocError, Global};
 
@@ -42,32 +39,28 @@ fn one_row(alloc: Global, most: u64) -> Result<Option<Rows>, AllocError>
 /// `AllocError` if there is no memory, numbers run out, or the host answers it.
 pub(crate) fn step_rows<F: Fn(u32, &Items<Text>) -> Result<Text, AllocError>, M: Meaning>(
     alloc: Global,
-    source: &Schema,
-    rows: &Numbers,
-    host: &Host<F, M>,
+    source: &Source<'_, '_, F, M>,
     select: &[Select],
     sources: &[Text],
     equal: &[Equal],
     symbols: &mut Symbols,
     most: u64,
 ) -> Result<Option<Rows>, AllocError>
-    requires serves { Serves F.Fn M.apply host.now }
-    requires widths { widths (shown_tables rows.now.symbols rows.now.tables) ≡ schema_widths source.now }
-    requires named { Each sources.now (λ name. name ∈ table_names (table_names_of source.now)) }
-    requires selected { Each select.now (SelectFits (table_names_of source.now) (offered host.now) sources.now) }
-    requires equal { Each equal.now (EqualFits (table_names_of source.now) sources.now) }
-    requires symbols { Extends rows.now.symbols symbols.old }
-    requires apart { AreDistinctValues symbols.old }
+    requires serves { Serves F.Fn M.apply source.now.host.now }
+    requires fits { MatchingFits (table_names_of source.now.schema.now) (offered source.now.host.now)
+        (record { select = select.now; sources = sources.now; equal = equal.now }) }
+    requires symbols { Extends source.now.rows.now.symbols symbols.old }
     ensures grows { Extends symbols.old symbols.new }
     ensures apart { AreDistinctValues symbols.new }
     ensures rows { IfOk result (λ o. MatchOption o
-        (MoreTuples most (IsSelected (table_names_of source.now) (call_named M.apply (offered host.now))
-        (facts (shown_tables rows.now.symbols rows.now.tables)) select.now sources.now equal.now))
-        (StandFor (length select.now) (IsSelected (table_names_of source.now) (call_named M.apply (offered host.now))
-        (facts (shown_tables rows.now.symbols rows.now.tables)) select.now sources.now equal.now) symbols.new)) }
+        (MoreTuples most (IsSelected (table_names_of source.now.schema.now) (call_named M.apply (offered source.now.host.now))
+        (facts (shown_tables source.now.rows.now.symbols source.now.rows.now.tables)) select.now sources.now equal.now))
+        (StandFor (length select.now) (IsSelected (table_names_of source.now.schema.now) (call_named M.apply (offered source.now.host.now))
+        (facts (shown_tables source.now.rows.now.symbols source.now.rows.now.tables)) select.now sources.now equal.now) symbols.new)) }
 {
-    // The call tells that rows are as wide as their tables.
-    let _count = rows.len();
+    // The calls tell that rows are as wide as their tables, and that no value has two numbers.
+    let _count = source.rows.len();
+    let _few = symbols.len();
     if sources.is_empty() {
         return one_row(alloc, most);
     }
@@ -78,6 +71,15 @@ pub(crate) fn step_rows<F: Fn(u32, &Items<Text>) -> Result<Text, AllocError>, M:
         premise,
         derived,
         shown,
-    } = Query::of_step(alloc, source, host, select, sources, equal)?;
-    shown_rows(alloc, &premise, &derived, &shown, rows, symbols, host, most)
+    } = Query::of_step(alloc, source.schema, source.host, select, sources, equal)?;
+    shown_rows(
+        alloc,
+        &premise,
+        &derived,
+        &shown,
+        source.rows,
+        symbols,
+        source.host,
+        most,
+    )
 }

@@ -16,6 +16,7 @@ use crate::finding::found_steps;
 use crate::found::Found;
 use crate::inserting::insert_all;
 use crate::made::Made;
+use crate::source::Source;
 use dx_funcs::{Host, Meaning};
 use dx_instance::Instance;
 use dx_ports::{Items, Text};
@@ -50,7 +51,13 @@ pub fn eval<F: Fn(u32, &Items<Text>) -> Result<Text, AllocError>, M: Meaning>(
 {
     let steps = script.steps.items();
     let columns = target.widths(alloc)?;
-    let found = found_steps(alloc, steps, source, &rows.numbers(), host, limit)?;
+    let numbers = rows.numbers();
+    let given = Source {
+        schema: source,
+        rows: &numbers,
+        host,
+    };
+    let found = found_steps(alloc, steps, &given, limit)?;
     let Found { symbols, tables } = found.in_order(alloc)?;
     let matches = matches_of(alloc, &tables, &symbols)?;
     let mut builder = Builder::new(alloc, symbols, &columns)?;

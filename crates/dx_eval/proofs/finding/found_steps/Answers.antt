@@ -11,29 +11,29 @@ use Rattle.dx_eval.specs.Finding.{IsFoundStep, IsFoundUpTo}
 use Rattle.dx_eval.specs.Query.{IsSelected}
 use Rattle.dx_eval.proofs.Limits.{all_found, few_cells, many_cells, match_step, matching_at, matching_fits, number_is, other_step, passes, refused_limit, start, too_many}
 use Rattle.dx_eval.proofs.Tables.{match_fits_at, of_step}
-use Rattle.dx_eval.proofs.finding.find_steps.Goals.{in-MatchRows+in_ok-cells+in_ok-found+in_ok-table+in_ok-push, in_default}
-use Rattle.dx_eval.proofs.finding.find_steps.Goals as goal
+use Rattle.dx_eval.proofs.finding.found_steps.Goals.{in-MatchRows+in_ok-cells+in_ok-found+in_ok-table+in_ok-push, in_default}
+use Rattle.dx_eval.proofs.finding.found_steps.Goals as goal
 
 pub loop-step-init : goal.loop-step-init
 loop-step-init g c =
-    let N = table_names_of c.args.source.now in
-    let I = facts (shown_tables c.args.rows.now.symbols c.args.rows.now.tables) in
-    start N (call_named g.M.Meaning.apply (offered c.args.host.now)) I c.args.steps.now c.args.rows.now.symbols c.args.symbols.now c.args.tables.now.items c.args.limit c.requires.symbols c.requires.none c.requires.apart
+    let N = table_names_of c.args.source.now.schema.now in
+    let I = facts (shown_tables c.args.source.now.rows.now.symbols c.args.source.now.rows.now.tables) in
+    start N (call_named g.M.Meaning.apply (offered c.args.source.now.host.now)) I c.args.steps.now c.args.source.now.rows.now.symbols c.in_ok-symbols.symbols c.new-tables.result.items c.args.limit c.in_ok-symbols.ensures c.new-tables.ensures.items c.len-few.ensures.fit.apart
 
 pub matched_rows-requires-clause-fit : goal.matched_rows-requires-clause-fit
 matched_rows-requires-clause-fit g c =
-    let N = table_names_of c.args.source.now in
-    let L = offered c.args.host.now in
+    let N = table_names_of c.args.source.now.schema.now in
+    let L = offered c.args.source.now.host.now in
     let w = c.in-MatchRows in
     matching_fits N L (take c.loop-step.step-index c.args.steps.now) c.step-item.result w.rule w.select w.sources w.equal w.is
     (match_fits_at N L c.args.steps.now c.loop-step.step-index w.rule w.select w.sources w.equal c.step-item.result c.requires.fit c.loop-step-test.true c.step-item.is w.is)
 
 pub returns-in_err-table-clause-refused : goal.returns-in_err-table-clause-refused
 returns-in_err-table-clause-refused g c =
-    let N = table_names_of c.args.source.now in
-    let L = offered c.args.host.now in
+    let N = table_names_of c.args.source.now.schema.now in
+    let L = offered c.args.source.now.host.now in
     let C = call_named g.M.Meaning.apply L in
-    let I = facts (shown_tables c.args.rows.now.symbols c.args.rows.now.tables) in
+    let I = facts (shown_tables c.args.source.now.rows.now.symbols c.args.source.now.rows.now.tables) in
     let w = c.in-MatchRows in
     let m = match_fits_at N L c.args.steps.now c.loop-step.step-index w.rule w.select w.sources w.equal c.step-item.result c.requires.fit c.loop-step-test.true c.step-item.is w.is in
     let f = c.loop-step.invariant in
@@ -42,9 +42,9 @@ returns-in_err-table-clause-refused g c =
     let many = too_many c.in_ok-found.found c.room_for-room.result (length w.select) selected c.matched_rows.new.symbols c.in_ok-found.ensures.apart rows c.in_err-table.ensures.err.1 in
     let more = many_cells c.room_for-room.result c.in_ok-cells.cells c.loop-step.left (length many.tuples) c.room_for-room.ensures many.few many.more in
     let over = subst (λ (z : ℕ). c.loop-step.left < length many.tuples * z) c.in_ok-cells.ensures more in
-    let p = passes N C I c.args.steps.now L c.args.rows.now.symbols c.loop-step.symbols c.loop-step.tables.items c.args.limit c.loop-step.left c.loop-step.step-index w.rule w.select w.sources w.equal c.step-item.result many.tuples
+    let p = passes N C I c.args.steps.now L c.args.source.now.rows.now.symbols c.loop-step.symbols c.loop-step.tables.items c.args.limit c.loop-step.left c.loop-step.step-index w.rule w.select w.sources w.equal c.step-item.result many.tuples
     c.requires.fit c.loop-step-test.true c.step-item.is w.is
-    (number_is N C I c.args.steps.now L c.args.rows.now.symbols c.loop-step.symbols c.loop-step.tables.items c.args.limit c.loop-step.left c.loop-step.step-index w.rule w.select w.sources w.equal f m)
+    (number_is N C I c.args.steps.now L c.args.source.now.rows.now.symbols c.loop-step.symbols c.loop-step.tables.items c.args.limit c.loop-step.left c.loop-step.step-index w.rule w.select w.sources w.equal f m)
     f many.distinct many.each over in
     let e = err_from_is_err_and c.from_residual-in_err-table.result c.from_residual-in_err-table.ensures.1 in
     rw (e.1, e.2) (refused_limit N C c.args.steps.now I c.args.limit c.in_err-table.field-0.0 c.in_err-table.ensures.err.0 p)
@@ -59,10 +59,10 @@ overflow_mul-left g c =
 
 pub loop-step-preserved : goal.loop-step-preserved
 loop-step-preserved g c =
-    let N = table_names_of c.args.source.now in
-    let L = offered c.args.host.now in
+    let N = table_names_of c.args.source.now.schema.now in
+    let L = offered c.args.source.now.host.now in
     let C = call_named g.M.Meaning.apply L in
-    let I = facts (shown_tables c.args.rows.now.symbols c.args.rows.now.tables) in
+    let I = facts (shown_tables c.args.source.now.rows.now.symbols c.args.source.now.rows.now.tables) in
     let f = c.loop-step.invariant in
     elim c.match-step.branch [
       | in-MatchRows+in_ok-cells+in_ok-found+in_ok-table+in_ok-push w ↦
@@ -73,19 +73,19 @@ loop-step-preserved g c =
           (IsFoundStep N C I w.matched_rows.new.symbols (of_step v.select v.sources v.equal)) w.in_ok-table.ensures.ok.0 rows in
           let few = few_cells w.room_for-room.result w.in_ok-cells.cells c.loop-step.left (length w.in_ok-table.table.rows) w.room_for-room.ensures w.in_ok-table.ensures.few w.in_ok-table.ensures.ok.1 in
           let less = subst (λ (z : ℕ). length w.in_ok-table.table.rows * z ≤ c.loop-step.left) w.in_ok-cells.ensures few in
-          rw (w.symbols-is, w.tables-is, w.left-is, w.count.ensures.count, w.in_ok-cells.ensures) (match_step N C I c.args.steps.now c.args.rows.now.symbols c.loop-step.symbols w.matched_rows.new.symbols c.loop-step.tables.items w.push.new.self.items
+          rw (w.symbols-is, w.tables-is, w.left-is, w.count.ensures.count, w.in_ok-cells.ensures) (match_step N C I c.args.steps.now c.args.source.now.rows.now.symbols c.loop-step.symbols w.matched_rows.new.symbols c.loop-step.tables.items w.push.new.self.items
           c.args.limit c.loop-step.left c.loop-step.step-index w.in-MatchRows.rule w.in-MatchRows.select w.in-MatchRows.sources w.in-MatchRows.equal c.step-item.result w.in_ok-table.table c.loop-step-test.true c.step-item.is w.in-MatchRows.is
-          (number_is N C I c.args.steps.now L c.args.rows.now.symbols c.loop-step.symbols c.loop-step.tables.items c.args.limit c.loop-step.left c.loop-step.step-index w.in-MatchRows.rule w.in-MatchRows.select w.in-MatchRows.sources w.in-MatchRows.equal f m)
+          (number_is N C I c.args.steps.now L c.args.source.now.rows.now.symbols c.loop-step.symbols c.loop-step.tables.items c.args.limit c.loop-step.left c.loop-step.step-index w.in-MatchRows.rule w.in-MatchRows.select w.in-MatchRows.sources w.in-MatchRows.equal f m)
           f w.in_ok-found.ensures.grows w.in_ok-found.ensures.apart stand w.in_ok-push.ensures.items less)
-      | in_default w ↦ rw (w.symbols-is, w.tables-is, w.left-is) (other_step N C I c.args.steps.now c.args.rows.now.symbols c.loop-step.symbols c.loop-step.tables.items c.args.limit c.loop-step.left c.loop-step.step-index c.step-item.result
+      | in_default w ↦ rw (w.symbols-is, w.tables-is, w.left-is) (other_step N C I c.args.steps.now c.args.source.now.rows.now.symbols c.loop-step.symbols c.loop-step.tables.items c.args.limit c.loop-step.left c.loop-step.step-index c.step-item.result
           c.loop-step-test.true c.step-item.is w.in_default.not-MatchRows f)
     ]
 
 pub returns-clause-found : goal.returns-clause-found
 returns-clause-found g c =
-    let N = table_names_of c.args.source.now in
-    let I = facts (shown_tables c.args.rows.now.symbols c.args.rows.now.tables) in
-    all_found N (call_named g.M.Meaning.apply (offered c.args.host.now)) I c.args.steps.now c.args.rows.now.symbols c.loop-step.symbols c.loop-step.tables.items c.args.limit c.loop-step.left c.loop-step.step-index c.loop-step-test.false c.loop-step.invariant
+    let N = table_names_of c.args.source.now.schema.now in
+    let I = facts (shown_tables c.args.source.now.rows.now.symbols c.args.source.now.rows.now.tables) in
+    all_found N (call_named g.M.Meaning.apply (offered c.args.source.now.host.now)) I c.args.steps.now c.args.source.now.rows.now.symbols c.loop-step.symbols c.loop-step.tables.items c.args.limit c.loop-step.left c.loop-step.step-index c.loop-step-test.false c.loop-step.invariant
 
 pub returns-clause-within : goal.returns-clause-within
 returns-clause-within g c = let e = c.loop-step.invariant.cells in omega (arith, e)

@@ -10,5 +10,5 @@ use Rattle.dx_eval.proofs.inserting.insert_places.Given as goal
 abbrev pub invariant-loop-place : goal.invariant-loop-place
 invariant-loop-place l = record {
   grows : Extends l.fn.target.symbols l.target.symbols;
-  gains : GainsFacts (built l.fn.target) (built l.target) (map (placed_fact l.table l.rule (map (texts_of l.fn.target.symbols) l.rows.rows) l.cells) (take l.place-index l.places));
+  gains : GainsFacts (built l.fn.target) (built l.target) (map (placed_fact l.table l.at.rule (map (texts_of l.fn.target.symbols) l.at.rows.now.rows) l.cells) (take l.place-index l.at.places.now));
 }

@@ -11,5 +11,5 @@ use Rattle.dx_eval.proofs.inserting.insert_rule.Given as goal
 abbrev pub invariant-loop-step : goal.invariant-loop-step
 invariant-loop-step l = record {
   grows : Extends l.fn.target.symbols l.target.symbols;
-  gains : GainsFacts (built l.fn.target) (built l.target) (facts_by (table_names_of l.schema) (take l.step-index l.steps) l.rule (map (texts_of l.fn.target.symbols) l.rows.rows) l.places);
+  gains : GainsFacts (built l.fn.target) (built l.target) (facts_by (table_names_of l.schema) (take l.step-index l.steps) l.at.rule (map (texts_of l.fn.target.symbols) l.at.rows.now.rows) l.at.places.now);
 }

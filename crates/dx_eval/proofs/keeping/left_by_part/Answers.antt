@@ -15,7 +15,7 @@ row-row-requires c = c.requires.places _ (in_at c.args.places.now c.loop-place.p
 
 pub has_partner-requires-clause-texts : goal.has_partner-requires-clause-texts
 has_partner-requires-clause-texts c =
-    row_there c.args.symbols.now c.args.own.now.rows (get_or c.args.places.now c.loop-place.place-index 0) c.row-row.result.now c.requires.own
+    row_there c.args.symbols.now c.args.own.now.rows (get_or c.args.places.now c.loop-place.place-index 0) c.row-row.result.now c.requires.texts.0
     (c.requires.places _ (in_at c.args.places.now c.loop-place.place-index 0 c.loop-place-test.true)) c.row-row.ensures.row
 
 pub has_partner-requires-clause-stand : goal.has_partner-requires-clause-stand
@@ -27,9 +27,9 @@ loop-place-preserved c =
     let k = get_or c.args.places.now c.loop-place.place-index 0 in
     let low = c.requires.places _ (in_at c.args.places.now c.loop-place.place-index 0 c.loop-place-test.true) in
     let here = get_or_default c.args.places.now c.loop-place.place-index 0 k c.loop-place-test.true in
-    let p = partner_is S c.args.own.now c.args.other.now.rows c.in_ok-keys.keys.rows c.args.tests.now c.args.other.now.width k c.row-row.result.now c.deref.result.now c.deref-in-loop-place.result.now c.in_ok-has_partner.field-0
-    c.requires.apart c.requires.own low c.row-row.ensures.row c.row-row.ensures.width c.requires.other c.in_ok-keys.ensures.wide c.requires.stand c.in_ok-keys.ensures.keys (c.deref.ensures.value ∙ c.in_ok-columns_of_other.ensures)
-    (c.deref-in-loop-place.ensures.value ∙ c.in_ok-columns.ensures) c.in_ok-has_partner.ensures in
+    let p = partner_is S c.args.own.now c.args.other.now.rows c.in_ok-keys.keys.rows c.args.tests.now c.args.other.now.width k c.row-row.result.now c.deref.result.now c.deref-2.result.now c.in_ok-has_partner.field-0
+    c.len-few.ensures.apart c.requires.texts.0 low c.row-row.ensures.row c.row-row.ensures.width c.requires.texts.1 c.in_ok-keys.ensures.wide c.requires.stand c.in_ok-keys.ensures.keys (c.deref.ensures.value ∙ c.in_ok-columns_of_other.ensures)
+    (c.deref-2.ensures.value ∙ c.in_ok-columns.ensures) c.in_ok-has_partner.ensures in
     elim c.if-not-branch.branch [
       | then-not-branch+in_ok-push w ↦ rw (w.left-is, w.in_ok-push.ensures.items) (place_left S c.args.own.now.rows c.args.other.now.rows c.args.tests.now c.args.places.now c.loop-place.left.items c.loop-place.place-index k c.in_ok-has_partner.field-0
           c.loop-place-test.true here w.if-not-branch.true p c.loop-place.invariant)

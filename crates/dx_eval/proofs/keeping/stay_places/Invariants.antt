@@ -3,4 +3,4 @@ use Rattle.dx_eval.proofs.Partners.{StaySoFar}
 use Rattle.dx_eval.proofs.keeping.stay_places.Given as goal
 
 abbrev pub invariant-loop-step : goal.invariant-loop-step
-invariant-loop-step l = StaySoFar l.symbols l.tables l.rule (take l.step-index l.steps) l.places.items
+invariant-loop-step l = StaySoFar l.of.symbols.now l.of.tables.now l.of.rule (take l.step-index l.steps) l.places.items
