@@ -1,6 +1,7 @@
 -- The query of a command: one reason to refuse it, or one query over the target.
-use Rattle.std.proofs.Common.{◌≡◌, ◌⊎◌, ◌≤◌, ℕ, List, [], ◌∷◌, length, refl, sym, ◌∙◌, ap, subst, inl, inr, arith, Result, Ok, Err}
+use Rattle.std.proofs.Common.{◌≡◌, ◌⊎◌, ◌≤◌, ℕ, List, [], ◌∷◌, length, refl, sym, ◌∙◌, subst, inl, inr, arith, Some, Result, Ok, Err}
 use Rattle.std.proofs.lemmas.Bool.{cases_order}
+use Rattle.std.proofs.lemmas.Option.{none-some, same_Some}
 use Rattle.dx_ports.specs.Members.{◌∈◌, Each, here, there}
 use Rattle.dx_ports.specs.declared.file.Count.TheVariants.{QueryAtoms}
 use Rattle.dx_ports.specs.declared.file.Limit.{Limit}
@@ -19,10 +20,10 @@ use Rattle.dx_query_text.proofs.Fitting.{read_queries_fit}
 use Rattle.dx_stages.specs.Worlds.{World}
 use Rattle.dx_stages.specs.declared.stop.Stop.{Stop}
 use Rattle.dx_stages.specs.declared.stop.Stop.TheVariants as stops
-use Rattle.dx_stages.specs.Stages.{by, file, saying}
+use Rattle.dx_stages.specs.Stages.{by, file, saying_if}
 use Rattle.dx_stages.specs.Running.{Gives, Ran}
-use Rattle.dx_stages.specs.Laws.{AsksOnly, IsDecided, PassesOne}
-use Rattle.dx_stages.proofs.Decided.{Any, by_decided, by_one, checking_decided, checking_one, file_decided, file_one, into_decided, into_one, next_decided, next_one, notions_decided, saying_decided, weaker}
+use Rattle.dx_stages.specs.Laws.{AsksOnly, HasWords, IsDecided, PassesOne}
+use Rattle.dx_stages.proofs.Decided.{Any, by_decided, by_one, checking_decided, checking_one, file_decided, file_one, into_decided, into_one, next_decided, next_one, notions_decided, one_word, saying_if_decided, weaker}
 use Rattle.dx_stages.proofs.Running.{ran_file, ran_next, ran_passes, ran_stop, ran_value, silent_apart}
 use Rattle.clio_accept.specs.declared.mapping.Mapping.{Mapping}
 use Rattle.clio_ending.specs.declared.ending.Refusal.{Refusal}
@@ -71,14 +72,20 @@ said_decided target =
     notions_decided (λ e k. e ≡ k) Any (IsFaultOver target) (IsQueryOver target) (λ text e f g a b. one_fault target text e f a b)
     (λ text q e g a b. never_said_and_faulty target text q e a b) (λ text g. query_or_fault target text)
 
+-- each fault of a query's text has its word
+pub queries_have_words : (target : Forest) → HasWords query_refusal (query_in_text target)
+queries_have_words target c text (text_faults.At place kind) fault = (refusals.Query (query_faults.Text place kind), refl)
+queries_have_words target c text (text_faults.TooDeep place) fault = absurd (faults_are_placed target text (text_faults.TooDeep place) fault)
+queries_have_words target c text text_faults.Memory fault = absurd (faults_are_placed target text text_faults.Memory fault)
+
 text_one : (target : Forest) → PassesOne (text_query target)
-text_one target = next_one (saying query_refusal (query_in_text target)) few_atoms (said_one target) (checking_one HasManyAtoms HasFewAtoms)
+text_one target = next_one (saying_if query_refusal (query_in_text target)) few_atoms (said_one target) (checking_one HasManyAtoms HasFewAtoms)
 
 text_decided : (target : Forest) → IsDecided AreAlike Any (text_query target)
 text_decided target =
-    next_decided AreAlike Any Any (saying query_refusal (query_in_text target)) few_atoms (said_one target) (λ c a b g p. tt)
-    (saying_decided (λ e k. e ≡ k) AreAlike Any query_refusal (query_in_text target) (λ e k is. same_alike (query_refusal e) (query_refusal k) (ap query_refusal is)) (said_decided target))
-    few_decided
+    next_decided AreAlike Any Any (saying_if query_refusal (query_in_text target)) few_atoms (said_one target) (λ c a b g p. tt)
+    (saying_if_decided (λ e k. e ≡ k) AreAlike Any query_refusal (query_in_text target) (λ e k x y is p q. same_alike x y (one_word query_refusal e k x y is p q)) (queries_have_words target)
+    (said_decided target)) few_decided
 
 -- ---- the file
 
@@ -173,13 +180,13 @@ query_within called text bytes old new same x =
 abbrev pub IsOfQuery : Refusal → Type 0
 IsOfQuery e = ((fault : QueryFault) × (e ≡ refusals.Query fault)) ⊎ ((l : Limit) × (e ≡ refusals.Limit l))
 
-fault_said : (target : Forest) (text : List ℕ) (k : TextFault) (e : Refusal) → IsFaultOver target text k → e ≡ query_refusal k → IsOfQuery e
-fault_said target text (text_faults.At place kind) e h is = inl (query_faults.Text place kind, is)
-fault_said target text (text_faults.TooDeep place) e h is = absurd (faults_are_placed target text (text_faults.TooDeep place) h)
-fault_said target text text_faults.Memory e h is = absurd (faults_are_placed target text text_faults.Memory h)
+fault_said : (k : TextFault) (e : Refusal) → query_refusal k ≡ Some e → IsOfQuery e
+fault_said (text_faults.At place kind) e is = inl (query_faults.Text place kind, sym (same_Some (refusals.Query (query_faults.Text place kind)) e is))
+fault_said (text_faults.TooDeep place) e is = absurd (none-some e is)
+fault_said text_faults.Memory e is = absurd (none-some e is)
 
 pub query_refusals : (c : World) (M : Mapping) (e : Refusal) → query_stages.refuses c M e → IsOfQuery e
 query_refusals c M e (inl (inl (none, is))) = inl (query_faults.Absent, is)
 query_refusals c M e (inl (inr (bytes, held, many, is))) = inr (_, is)
-query_refusals c M e (inr (text, held, inl (k, fault, is))) = fault_said M.target text k e fault is
+query_refusals c M e (inr (text, held, inl (k, fault, is))) = fault_said k e is
 query_refusals c M e (inr (text, held, inr (q, said, (p, m, many, is)))) = inr (_, is)

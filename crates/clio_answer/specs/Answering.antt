@@ -4,7 +4,7 @@ use Rattle.dx_ports.specs.Members.{◌∈◌}
 use Rattle.dx_ports.specs.declared.file.Count.TheVariants.{AnswerCells, QueryAtoms, QueryBytes}
 use Rattle.dx_ports.specs.declared.limits.TheConstants.{ANSWER_CELLS, QUERY_ATOMS, QUERY_BYTES}
 use Rattle.dx_stages.specs.Ending.{PlanContent}
-use Rattle.dx_stages.specs.Stages.{Stage, next, by, over, into, file, saying, checking, notions}
+use Rattle.dx_stages.specs.Stages.{Stage, next, by, over, into, file, saying, saying_if, checking, notions}
 use Rattle.dx_schema.specs.Forest.{Forest}
 use Rattle.dx_tokens.specs.declared.faults.TextFault.{TextFault}
 use Rattle.dx_instance.specs.Stored.{TableRows, facts}
@@ -62,7 +62,7 @@ few_atoms = checking HasManyAtoms HasFewAtoms
 
 -- the query of a text, none of whose parts has more
 abbrev pub text_query : Forest → Stage Refusal (List ℕ) Query
-text_query target = next (saying query_refusal (query_in_text target)) few_atoms
+text_query target = next (saying_if query_refusal (query_in_text target)) few_atoms
 
 -- a mapping, and a query over its target
 abbrev pub MappingAndQuery : Type 0

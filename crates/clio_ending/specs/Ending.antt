@@ -1,5 +1,5 @@
 -- Refusals and endings of a run: their exit statuses, the names of a clash, and which refusals are alike.
-use Rattle.std.specs.Prelude.{◌≡◌, ◌⊎◌, ℕ, List, [], map, slice_index_or}
+use Rattle.std.specs.Prelude.{◌≡◌, ◌⊎◌, ℕ, List, [], Option, Some, None, map, slice_index_or}
 use Rattle.dx_ports.specs.Texts.{Text}
 use Rattle.dx_stages.specs.declared.plan.Ended.{Ended}
 use Rattle.dx_stages.specs.declared.plan.Ended.TheVariants as endeds
@@ -23,23 +23,23 @@ use Rattle.clio_ending.specs.declared.ending.Refusal.TheVariants as refusals
 use Rattle.clio_ending.specs.declared.ending.Ending.{Ending}
 use Rattle.clio_ending.specs.declared.ending.Ending.TheVariants as endings
 
--- a fault of the mapping text; want of memory is none
-abbrev pub mapping_refusal : AcceptFault → Refusal
-mapping_refusal (accept_faults.Mapping fault) = refusals.Mapping fault
-mapping_refusal (accept_faults.Limit limit) = refusals.Limit limit
-mapping_refusal accept_faults.Memory = refusals.Usage
+-- the refusal for a fault of the mapping text; want of memory refuses nothing
+abbrev pub mapping_refusal : AcceptFault → Option Refusal
+mapping_refusal (accept_faults.Mapping fault) = Some (refusals.Mapping fault)
+mapping_refusal (accept_faults.Limit limit) = Some (refusals.Limit limit)
+mapping_refusal accept_faults.Memory = None
 
--- a fault of the second mapping's text; want of memory is none
-abbrev pub other_refusal : AcceptFault → Refusal
-other_refusal (accept_faults.Mapping fault) = refusals.Other (other_faults.Mapping fault)
-other_refusal (accept_faults.Limit limit) = refusals.Limit limit
-other_refusal accept_faults.Memory = refusals.Usage
+-- the refusal for a fault of the second mapping's text; want of memory refuses nothing
+abbrev pub other_refusal : AcceptFault → Option Refusal
+other_refusal (accept_faults.Mapping fault) = Some (refusals.Other (other_faults.Mapping fault))
+other_refusal (accept_faults.Limit limit) = Some (refusals.Limit limit)
+other_refusal accept_faults.Memory = None
 
--- a fault of a query's text; it is never too deep, and want of memory is none
-abbrev pub query_refusal : TextFault → Refusal
-query_refusal (text_faults.At place kind) = refusals.Query (query_faults.Text place kind)
-query_refusal (text_faults.TooDeep place) = refusals.Usage
-query_refusal text_faults.Memory = refusals.Usage
+-- the refusal for a fault of a query's text; no such text is too deep, and want of memory refuses nothing
+abbrev pub query_refusal : TextFault → Option Refusal
+query_refusal (text_faults.At place kind) = Some (refusals.Query (query_faults.Text place kind))
+query_refusal (text_faults.TooDeep place) = None
+query_refusal text_faults.Memory = None
 
 -- a refusal of the source
 abbrev pub source_refusal : SourceRefusal → Refusal
@@ -58,11 +58,11 @@ left_columns schema t k = (slice_index_or (determinations_of (schema_table schem
 abbrev pub named_clash : Forest → Clash → Refusal
 named_clash target c = refusals.Clash c (table_name target c.table) (map (column_text target c.table) (left_columns target c.table c.key)) (column_text target c.table c.column)
 
--- a fault of the exchange into this target; want of memory is none
-abbrev pub exchange_refusal : Forest → ExFault → Refusal
-exchange_refusal target (exchange_faults.Clash clash) = named_clash target clash
-exchange_refusal target (exchange_faults.Limit limit) = refusals.Limit limit
-exchange_refusal target exchange_faults.Memory = refusals.Usage
+-- the refusal for a fault of the exchange into this target; want of memory refuses nothing
+abbrev pub exchange_refusal : Forest → ExFault → Option Refusal
+exchange_refusal target (exchange_faults.Clash clash) = Some (named_clash target clash)
+exchange_refusal target (exchange_faults.Limit limit) = Some (refusals.Limit limit)
+exchange_refusal target exchange_faults.Memory = None
 
 -- it is a clash
 abbrev pub IsClashRefusal : Refusal → Type 0

@@ -1,17 +1,19 @@
 -- A given target, judged in a world: what is known of the verdict, and that there is one or a reason to refuse.
-use Rattle.std.proofs.Common.{◌≡◌, ◌∙◌, ℕ, List, [], sym, ap, subst}
+use Rattle.std.proofs.Common.{◌≡◌, ◌∙◌, ℕ, List, [], refl, sym, ap, subst}
 use Rattle.dx_model.specs.Tables.{IsInstance}
+use Rattle.dx_model.specs.Values.{Conversions}
 use Rattle.dx_instance.specs.Stored.{TableRows, facts}
 use Rattle.dx_schema.specs.Forest.{Forest}
 use Rattle.dx_schema.specs.Tables.{model_tables}
+use Rattle.dx_judge.specs.declared.fault.JudgeFault.TheVariants as judge_faults
 use Rattle.dx_judge.specs.declared.verdict.Verdict.{Verdict}
 use Rattle.dx_judge.specs.Laws.{AreSameFault as FaultsAlike, InputFits}
 use Rattle.dx_judge.specs.Verdicts.{IsJudgement, judging}
 use Rattle.dx_judge.proofs.Judgements.{judged_or_limit}
 use Rattle.dx_stages.specs.Worlds.{World}
-use Rattle.dx_stages.specs.Laws.{IsDecided, PassesOne}
-use Rattle.dx_stages.specs.Stages.{next, over, saying}
-use Rattle.dx_stages.proofs.Decided.{Any, into_decided, into_one, next_decided, over_decided, over_one, saying_decided}
+use Rattle.dx_stages.specs.Laws.{HasWords, IsDecided, PassesOne}
+use Rattle.dx_stages.specs.Stages.{next, over, saying, saying_if}
+use Rattle.dx_stages.proofs.Decided.{Any, into_decided, into_one, next_decided, one_word, over_decided, over_one, saying_decided, saying_if_decided}
 use Rattle.clio_accept.specs.declared.mapping.Mapping.{Mapping}
 use Rattle.clio_accept.specs.Laws.{MappingFits}
 use Rattle.clio_accept.proofs.Accepted.{accepted_fits}
@@ -21,6 +23,7 @@ use Rattle.clio_given.specs.Given.{given_stages}
 use Rattle.clio_given.proofs.Decided.{given_decided, given_one}
 use Rattle.clio_given.proofs.Fitted.{given_fits}
 use Rattle.clio_files.specs.Verdicts.{verdict_text}
+use Rattle.clio_ending.specs.declared.ending.Refusal.TheVariants as refusals
 use Rattle.clio_ending.specs.Ending.{AreAlike, source_refusal}
 use Rattle.clio_ending.proofs.Alike.{same_alike}
 use Rattle.clio_steps.specs.declared.texts.Side.TheVariants.{First}
@@ -75,6 +78,11 @@ pub record FitsHanded (P : Program) (p : RowsAndTarget) : Type 0 where
 asked : (P : Program) (p : RowsAndTarget) → FitsHanded P p → InputFits P.list (model_tables p.0.0.source) (judged p)
 asked P p h = record { fits = rules_fit P p.0.0 h.mapping; given_fits = h.given }
 
+-- each reason why there is no verdict has its word
+pub verdicts_have_words : (convert : Conversions) → HasWords judge_refusal (judging convert)
+verdicts_have_words convert c asked (judge_faults.Limit limit) none = (refusals.Limit limit, refl)
+verdicts_have_words convert c asked judge_faults.Memory none = absurd none
+
 judging_decided : (P : Program) → IsDecided AreAlike (FitsHanded P) (judging_rows P)
 judging_decided P = into_decided AreAlike (FitsHanded P) (λ (p : RowsAndTarget) (v : Verdict). (p.0.0, v)) (judged_rows P.apply) (record {
   one = λ c p e f h. (of_source p.0.0.source).one c (judged p) e f (asked P p h);
@@ -82,10 +90,10 @@ judging_decided P = into_decided AreAlike (FitsHanded P) (λ (p : RowsAndTarget)
   either = λ c p h. (of_source p.0.0.source).either c (judged p) (asked P p h);
 })
   where
-    of_source : (source : Forest) → IsDecided AreAlike (InputFits P.list (model_tables source)) (saying judge_refusal (judging P.apply))
+    of_source : (source : Forest) → IsDecided AreAlike (InputFits P.list (model_tables source)) (saying_if judge_refusal (judging P.apply))
     of_source source =
-        saying_decided FaultsAlike AreAlike (InputFits P.list (model_tables source)) judge_refusal (judging P.apply)
-        (λ e k is. same_alike (judge_refusal e) (judge_refusal k) (ap judge_refusal is)) (judged_or_limit P.apply P.list (model_tables source))
+        saying_if_decided FaultsAlike AreAlike (InputFits P.list (model_tables source)) judge_refusal (judging P.apply)
+        (λ e k x y is p q. same_alike x y (one_word judge_refusal e k x y is p q)) (verdicts_have_words P.apply) (judged_or_limit P.apply P.list (model_tables source))
 
 given_rows_one : PassesOne given_rows
 given_rows_one =

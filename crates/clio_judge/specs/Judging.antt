@@ -1,8 +1,8 @@
 -- The stages of `judge`: the mapping, the rows, the given target, the verdict on it.
-use Rattle.std.specs.Prelude.{◌≡◌, ℕ, List, []}
+use Rattle.std.specs.Prelude.{◌≡◌, ℕ, List, [], Option, Some, None}
 use Rattle.dx_model.specs.Values.{Conversions}
 use Rattle.dx_stages.specs.Ending.{PlanContent}
-use Rattle.dx_stages.specs.Stages.{Stage, next, over, into, saying}
+use Rattle.dx_stages.specs.Stages.{Stage, next, over, into, saying, saying_if}
 use Rattle.dx_schema.specs.Tables.{model_tables, schema_widths}
 use Rattle.dx_instance.specs.Stored.{TableRows, facts, widths}
 use Rattle.dx_judge.specs.declared.fault.JudgeFault.{JudgeFault}
@@ -55,14 +55,14 @@ abbrev pub judged : RowsAndTarget → JudgeInput
 judged p =
     record { rules = p.0.0.rules; schema = model_tables p.0.0.target; rows = facts p.0.1; given = facts p.1; limit = target_cells }
 
--- why there is no verdict; want of memory is no reason
-abbrev pub judge_refusal : JudgeFault → Refusal
-judge_refusal (judge_faults.Limit limit) = refusals.Limit limit
-judge_refusal judge_faults.Memory = refusals.Usage
+-- the refusal if there is no verdict; want of memory refuses nothing
+abbrev pub judge_refusal : JudgeFault → Option Refusal
+judge_refusal (judge_faults.Limit limit) = Some (refusals.Limit limit)
+judge_refusal judge_faults.Memory = None
 
 -- the verdict on the given target
 abbrev pub judged_rows : Conversions → Stage Refusal RowsAndTarget Verdict
-judged_rows convert = over judged (saying judge_refusal (judging convert))
+judged_rows convert = over judged (saying_if judge_refusal (judging convert))
 
 -- the same, beside the mapping
 abbrev pub judging_rows : Program → Stage Refusal RowsAndTarget (Mapping × Verdict)

@@ -1,7 +1,7 @@
 -- When the stages that commands share refuse with a clash.
 use Rattle.std.proofs.Common.{◌≡◌, ◌⊎◌, ℕ, List, refl, sym, ◌∙◌, ap, subst, inl, inr, Option, Some, None, Bool, true, false, arith}
 use Rattle.std.proofs.lemmas.Bool.{true≢false}
-use Rattle.std.proofs.lemmas.Option.{same_Some}
+use Rattle.std.proofs.lemmas.Option.{none-some, same_Some}
 use Rattle.dx_instance.specs.Stored.{facts}
 use Rattle.dx_schema.specs.Forest.{Forest}
 use Rattle.dx_keys.specs.declared.answers.Clash.{Clash}
@@ -19,6 +19,7 @@ use Rattle.clio_accept.specs.declared.mapping.Mapping.{Mapping}
 use Rattle.clio_accept.proofs.Accepted.{accepted_fits}
 use Rattle.clio_source.specs.declared.fault.SourceRefusal.{SourceRefusal}
 use Rattle.clio_source.specs.declared.fault.SourceRefusal.TheVariants as source_refusals
+use Rattle.clio_ending.specs.declared.faults.OtherFault.TheVariants as other_faults
 use Rattle.clio_ending.specs.declared.ending.Refusal.{Refusal}
 use Rattle.clio_ending.specs.declared.ending.Refusal.TheVariants as refusals
 use Rattle.clio_ending.specs.Ending.{exchange_refusal, named_clash, source_refusal}
@@ -44,14 +45,14 @@ pub no_clash : (e : Refusal) (k : Clash) (table : List ℕ) (key : List (List �
 unfolding is_clash
 no_clash e k table key column none is = true≢false (sym (ap is_clash is) ∙ none)
 
-of_text : (side : Side) (k : AcceptFault) → is_clash (side_refusal side k) ≡ false
+of_text : (side : Side) (k : AcceptFault) (e : Refusal) → side_refusal side k ≡ Some e → is_clash e ≡ false
 unfolding is_clash
-of_text First (accept_faults.Mapping fault) = refl
-of_text First (accept_faults.Limit limit) = refl
-of_text First accept_faults.Memory = refl
-of_text Second (accept_faults.Mapping fault) = refl
-of_text Second (accept_faults.Limit limit) = refl
-of_text Second accept_faults.Memory = refl
+of_text First (accept_faults.Mapping fault) e is = ap is_clash (sym (same_Some (refusals.Mapping fault) e is))
+of_text First (accept_faults.Limit limit) e is = ap is_clash (sym (same_Some (refusals.Limit limit) e is))
+of_text First accept_faults.Memory e is = absurd (none-some e is)
+of_text Second (accept_faults.Mapping fault) e is = ap is_clash (sym (same_Some (refusals.Other (other_faults.Mapping fault)) e is))
+of_text Second (accept_faults.Limit limit) e is = ap is_clash (sym (same_Some (refusals.Limit limit) e is))
+of_text Second accept_faults.Memory e is = absurd (none-some e is)
 
 of_absent : (side : Side) → is_clash (absent_text side) ≡ false
 unfolding is_clash
@@ -67,27 +68,36 @@ pub text_never : (P : Program) (side : Side) (c : World) (e : Refusal) → (text
 unfolding is_clash
 text_never P side c e (inl (inl (none, is))) = ap is_clash is ∙ of_absent side
 text_never P side c e (inl (inr (bytes, held, many, is))) = ap is_clash is
-text_never P side c e (inr (text, there, (k, refused, is))) = ap is_clash is ∙ of_text side k
+text_never P side c e (inr (text, there, (k, refused, is))) = of_text side k e is
 
 pub rows_never : (P : Program) (c : World) (M : Mapping) (e : Refusal) → (rows_stages P).refuses c M e → is_clash e ≡ false
 rows_never P c M e (k, refused, is) = ap is_clash is ∙ of_source k
 
 -- ---- a clash has its reason
 
+-- what is told of a clash is told of that one
+clash_told : (target : Forest) (k d : Clash) (table : List ℕ) (key : List (List ℕ)) (column : List ℕ) → Some (named_clash target d) ≡ Some (refusals.Clash k table key column)
+    → (d ≡ k) × (refusals.Clash k table key column ≡ named_clash target d)
+unfolding clash_in
+clash_told target k d table key column is =
+    let told = same_Some (named_clash target d) (refusals.Clash k table key column) is in (same_Some d k (ap clash_in told), sym told)
+
 pub clash_of : (P : Program) (mode : Mode) (p : MappingAndRows) (target : Forest) (k : Clash) (table : List ℕ) (key : List (List ℕ)) (column : List ℕ) (fault : ExFault)
-    → HasNoExchange P.apply (exchange_input mode p) fault → refusals.Clash k table key column ≡ exchange_refusal target fault → HasClash P.apply (exchange_input mode p) k
-unfolding clash_in is_clash
-clash_of P mode p target k table key column (exchange_faults.Clash d) h is = subst (HasClash P.apply (exchange_input mode p)) (sym (same_Some k d (ap clash_in is))) h
-clash_of P mode p target k table key column (exchange_faults.Limit l) h is = absurd (true≢false (ap is_clash is))
+    → HasNoExchange P.apply (exchange_input mode p) fault → exchange_refusal target fault ≡ Some (refusals.Clash k table key column) → HasClash P.apply (exchange_input mode p) k
+unfolding is_clash
+clash_of P mode p target k table key column (exchange_faults.Clash d) h is = subst (HasClash P.apply (exchange_input mode p)) (clash_told target k d table key column is).0 h
+clash_of P mode p target k table key column (exchange_faults.Limit l) h is =
+    absurd (no_clash (refusals.Limit l) k table key column refl (same_Some (refusals.Limit l) (refusals.Clash k table key column) is))
 clash_of P mode p target k table key column exchange_faults.Memory h is = absurd h
 
 -- it is told with the names of the target
 pub named_of : (P : Program) (mode : Mode) (p : MappingAndRows) (target : Forest) (k : Clash) (table : List ℕ) (key : List (List ℕ)) (column : List ℕ) (fault : ExFault)
-    → HasNoExchange P.apply (exchange_input mode p) fault → refusals.Clash k table key column ≡ exchange_refusal target fault
+    → HasNoExchange P.apply (exchange_input mode p) fault → exchange_refusal target fault ≡ Some (refusals.Clash k table key column)
     → refusals.Clash k table key column ≡ named_clash target k
-unfolding clash_in is_clash
-named_of P mode p target k table key column (exchange_faults.Clash d) h is = is ∙ ap (named_clash target) (sym (same_Some k d (ap clash_in is)))
-named_of P mode p target k table key column (exchange_faults.Limit l) h is = absurd (true≢false (ap is_clash is))
+unfolding is_clash
+named_of P mode p target k table key column (exchange_faults.Clash d) h is = let told = clash_told target k d table key column is in told.1 ∙ ap (named_clash target) told.0
+named_of P mode p target k table key column (exchange_faults.Limit l) h is =
+    absurd (no_clash (refusals.Limit l) k table key column refl (same_Some (refusals.Limit l) (refusals.Clash k table key column) is))
 named_of P mode p target k table key column exchange_faults.Memory h is = absurd h
 
 pub exchange_clashes : (P : Program) (mode : Mode) (c : World) (k : Clash) (table : List ℕ) (key : List (List ℕ)) (column : List ℕ)

@@ -1,7 +1,9 @@
 -- There is one reason to refuse an exchange, or there is one, and never both.
-use Rattle.std.proofs.Common.{◌≡◌, List, sym, ap, subst, inr, Ok}
+use Rattle.std.proofs.Common.{◌≡◌, List, sym, ap, subst, inr, Some, Ok}
+use Rattle.std.proofs.lemmas.Option.{same_Some}
 use Rattle.dx_ports.specs.States.{InputState}
 use Rattle.dx_instance.specs.Stored.{TableRows, widths}
+use Rattle.dx_keys.specs.declared.answers.Clash.{Clash}
 use Rattle.dx_schema.specs.Forest.{Forest}
 use Rattle.dx_schema.specs.Tables.{model_tables, schema_widths}
 use Rattle.dx_exchange.specs.declared.result.Exchange.{Exchange}
@@ -12,11 +14,11 @@ use Rattle.dx_exchange.specs.declared.fault.ExFault.{ExFault}
 use Rattle.dx_exchange.specs.declared.fault.ExFault.TheVariants as exchange_faults
 use Rattle.dx_exchange.proofs.Decided.{exchange_or_none}
 use Rattle.dx_stages.specs.Worlds.{World}
-use Rattle.dx_stages.specs.Stages.{next, by, over, saying}
+use Rattle.dx_stages.specs.Stages.{next, by, over, saying, saying_if}
 use Rattle.dx_stages.specs.Laws.{PassesOne, IsDecided}
 use Rattle.dx_stages.specs.Running.{Ran}
 use Rattle.dx_stages.proofs.Running.{ran_passes}
-use Rattle.dx_stages.proofs.Decided.{Any, next_one, next_decided, over_one, over_decided, into_one, into_decided, file_one, file_decided, saying_decided}
+use Rattle.dx_stages.proofs.Decided.{Any, next_one, next_decided, over_one, over_decided, into_one, into_decided, file_one, file_decided, one_word, saying_decided, saying_if_decided}
 use Rattle.clio_accept.specs.declared.mapping.Mapping.{Mapping}
 use Rattle.clio_accept.specs.Accepting.{accepting}
 use Rattle.clio_accept.specs.Laws.{MappingFits}
@@ -28,23 +30,26 @@ use Rattle.clio_files.specs.Files.{FitsFiles}
 use Rattle.clio_files.specs.Texts.{FitTexts}
 use Rattle.clio_steps.specs.declared.texts.Side.{Side}
 use Rattle.clio_steps.specs.declared.texts.Side.TheVariants.{First}
-use Rattle.clio_ending.specs.Ending.{AreAlike, exchange_refusal, source_refusal}
+use Rattle.clio_ending.specs.declared.ending.Refusal.{Refusal}
+use Rattle.clio_ending.specs.Ending.{AreAlike, IsClashRefusal, exchange_refusal, named_clash, source_refusal}
 use Rattle.clio_ending.proofs.Alike.{alike, same_alike}
 use Rattle.clio_steps.specs.Steps.{MappingAndRows, Program, absent_text, exchange_input, exchanges, mapping_stages, named_stage, rows_stages, target_stages, text_bytes, text_file, text_name, side_refusal, text_stages, too_long, wanted}
 use Rattle.clio_steps.proofs.Mappings.{is_small}
 use Rattle.clio_steps.proofs.Plans.{files_fit, rules_fit, texts_fit}
+use Rattle.clio_steps.proofs.Reasons.{exchanges_have_words, texts_have_words}
 
 -- ---- a mapping text
 
 pub text_one : (P : Program) (side : Side) → PassesOne (text_stages P side)
 text_one P side =
-    next_one (text_file side) (saying (side_refusal side) (accepting P.list P.tests)) (file_one (Unit {0}) (text_name side) text_bytes (absent_text side) too_long) (accepting_one P.list P.tests)
+    next_one (text_file side) (saying_if (side_refusal side) (accepting P.list P.tests)) (file_one (Unit {0}) (text_name side) text_bytes (absent_text side) too_long) (accepting_one P.list P.tests)
 
 pub text_decided : (P : Program) (side : Side) → IsDecided AreAlike Any (text_stages P side)
 text_decided P side =
-    next_decided AreAlike Any Any (text_file side) (saying (side_refusal side) (accepting P.list P.tests)) (file_one (Unit {0}) (text_name side) text_bytes (absent_text side) too_long) (λ c a b g p. tt)
+    next_decided AreAlike Any Any (text_file side) (saying_if (side_refusal side) (accepting P.list P.tests)) (file_one (Unit {0}) (text_name side) text_bytes (absent_text side) too_long) (λ c a b g p. tt)
     (file_decided AreAlike Any (text_name side) text_bytes (absent_text side) too_long alike)
-    (saying_decided (λ e k. e ≡ k) AreAlike Any (side_refusal side) (accepting P.list P.tests) (λ e k is. same_alike (side_refusal side e) (side_refusal side k) (ap (side_refusal side) is)) (accepting_decided P.list P.tests))
+    (saying_if_decided (λ e k. e ≡ k) AreAlike Any (side_refusal side) (accepting P.list P.tests) (λ e k x y is p q. same_alike x y (one_word (side_refusal side) e k x y is p q)) (texts_have_words P side)
+    (accepting_decided P.list P.tests))
 
 -- ---- the rows
 
@@ -71,18 +76,21 @@ target_decided P mode = record {
   either = λ c p r. (asked_decided p.0.source p.0.target).either c (exchange_input mode p) (rules_fit P p.0 r);
 }
   where
-    faults_alike : (target : Forest) (e k : ExFault) → FaultsAlike e k → AreAlike (exchange_refusal target e) (exchange_refusal target k)
-    faults_alike target (exchange_faults.Clash c) (exchange_faults.Clash d) a = inr (tt, tt)
-    faults_alike target (exchange_faults.Clash c) (exchange_faults.Limit l) a = absurd a
-    faults_alike target (exchange_faults.Clash c) exchange_faults.Memory a = absurd a
-    faults_alike target (exchange_faults.Limit l) e a = same_alike _ _ (ap (exchange_refusal target) a)
-    faults_alike target exchange_faults.Memory e a = same_alike _ _ (ap (exchange_refusal target) a)
+    clash_said : (target : Forest) (c : Clash) (x : Refusal) → exchange_refusal target (exchange_faults.Clash c) ≡ Some x → IsClashRefusal x
+    clash_said target c x p = subst IsClashRefusal (same_Some (named_clash target c) x p) (tt {0})
+
+    faults_alike : (target : Forest) (e k : ExFault) (x y : Refusal) → FaultsAlike e k → exchange_refusal target e ≡ Some x → exchange_refusal target k ≡ Some y → AreAlike x y
+    faults_alike target (exchange_faults.Clash c) (exchange_faults.Clash d) x y a p q = inr (clash_said target c x p, clash_said target d y q)
+    faults_alike target (exchange_faults.Clash c) (exchange_faults.Limit l) x y a p q = absurd a
+    faults_alike target (exchange_faults.Clash c) exchange_faults.Memory x y a p q = absurd a
+    faults_alike target (exchange_faults.Limit l) k x y a p q = same_alike x y (one_word (exchange_refusal target) (exchange_faults.Limit l) k x y a p q)
+    faults_alike target exchange_faults.Memory k x y a p q = same_alike x y (one_word (exchange_refusal target) exchange_faults.Memory k x y a p q)
 
     asked_decided : (source target : Forest)
-        → IsDecided AreAlike (RulesOfInputFit P.list (model_tables source)) (saying (exchange_refusal target) (exchanging P.apply))
+        → IsDecided AreAlike (RulesOfInputFit P.list (model_tables source)) (saying_if (exchange_refusal target) (exchanging P.apply))
     asked_decided source target =
-        saying_decided FaultsAlike AreAlike (RulesOfInputFit P.list (model_tables source)) (exchange_refusal target) (exchanging P.apply)
-        (faults_alike target) (exchange_or_none P.apply P.list (model_tables source))
+        saying_if_decided FaultsAlike AreAlike (RulesOfInputFit P.list (model_tables source)) (exchange_refusal target) (exchanging P.apply)
+        (faults_alike target) (exchanges_have_words P.apply target) (exchange_or_none P.apply P.list (model_tables source))
 
 -- ---- an exchange
 

@@ -1,9 +1,9 @@
 -- A mapping text, fetched and accepted.
-use Rattle.std.proofs.Common.{◌≡◌, ◌<◌, ◌≤◌, ◌-◌, ◌^◌, ℕ, List, length, refl, subst, sym, Result, Ok, Err, arith}
+use Rattle.std.proofs.Common.{◌≡◌, ◌<◌, ◌≤◌, ◌-◌, ◌^◌, ℕ, List, length, refl, subst, sym, Some, Result, Ok, Err, arith}
 use Rattle.dx_ports.specs.declared.file.Limit.{Limit}
 use Rattle.dx_ports.specs.States.{InputState}
 use Rattle.dx_stages.specs.declared.stop.Stop.{Stop}
-use Rattle.dx_stages.specs.Stages.{file, saying}
+use Rattle.dx_stages.specs.Stages.{file, saying_if}
 use Rattle.dx_stages.specs.Running.{Ran, Gives}
 use Rattle.dx_stages.proofs.Running.{ran_next, ran_passes, ran_stop, ran_value, silent_apart}
 use Rattle.clio_accept.specs.declared.fault.AcceptFault.TheVariants as faults
@@ -29,14 +29,14 @@ pub stopped : (P : Program) (side : Side) (called : List ℕ) (absent : Refusal)
     → absent ≡ absent_text side → Ran (file {A = Unit {0}} called text_bytes absent too_long) (tt {0}) (Err e) old new
     → Ran (text_stages P side) (tt {0}) (Err e) old new
 stopped P side called absent e old new is said x =
-    ran_stop (text_file side) (saying (side_refusal side) (accepting P.list P.tests)) (tt {0}) e old new (its_file side called absent (Err e) old new is said x)
+    ran_stop (text_file side) (saying_if (side_refusal side) (accepting P.list P.tests)) (tt {0}) e old new (its_file side called absent (Err e) old new is said x)
 
 pub passed : (P : Program) (side : Side) (called : List ℕ) (absent : Refusal) (text bytes : List ℕ) (r : Result Mapping (Stop Refusal)) (old new : InputState)
     → called ≡ text_name side → absent ≡ absent_text side → bytes ≡ text
     → Ran (file {A = Unit {0}} called text_bytes absent too_long) (tt {0}) (Ok text) old new
-    → Gives (saying (side_refusal side) (accepting P.list P.tests)) bytes r → Ran (text_stages P side) (tt {0}) r old new
+    → Gives (saying_if (side_refusal side) (accepting P.list P.tests)) bytes r → Ran (text_stages P side) (tt {0}) r old new
 passed P side called absent text bytes r old new is said same x g =
-    let accepted = saying (side_refusal side) (accepting P.list P.tests) in
+    let accepted = saying_if (side_refusal side) (accepting P.list P.tests) in
     ran_next (text_file side) accepted (tt {0}) text r old new new (silent_apart (text_file side) accepted (accepting_silent P.list P.tests))
     (its_file side called absent (Ok text) old new is said x)
     (ran_value accepted text r new (subst (λ v. Gives accepted v r) same g))
@@ -60,6 +60,6 @@ within called absent text bytes old new same x =
     subst (λ v. length v ≤ text_bytes) (sym same) p.1.1
 
 -- a limit is said as one, whichever text it is of
-pub limit_said : (side : Side) (limit : Limit) → refusals.Limit limit ≡ side_refusal side (faults.Limit limit)
+pub limit_said : (side : Side) (limit : Limit) → side_refusal side (faults.Limit limit) ≡ Some (refusals.Limit limit)
 limit_said First limit = refl
 limit_said Second limit = refl

@@ -1,4 +1,4 @@
--- Want of memory is no reason to refuse a text, and the stages that commands share never refuse with `Usage`.
+-- Want of memory is no reason to refuse a text, so each refusal has its word; and the stages that commands share never refuse with `Usage`.
 use Rattle.std.proofs.Common.{◌≡◌, ℕ, List, [], ◌∷◌, ◌++◌, length, map, refl, ◌∙◌, ap, subst, inl, inr, Option, Some, None, Bool, true, false, cond}
 use Rattle.std.specs.Prelude.{◌||◌, eqb, nat_lt, not}
 use Rattle.dx_ports.specs.Firsts.{first_of}
@@ -34,7 +34,8 @@ use Rattle.dx_tgd_text.specs.Reading.{arg_fault, args_fault, atom_fault, atoms_f
 use Rattle.dx_exchange.specs.declared.fault.ExFault.{ExFault}
 use Rattle.dx_exchange.specs.declared.fault.ExFault.TheVariants as exchange_faults
 use Rattle.dx_exchange.specs.declared.mode.Mode.{Mode}
-use Rattle.dx_exchange.specs.Exchanging.{HasNoExchange}
+use Rattle.dx_exchange.specs.Exchanging.{exchanging}
+use Rattle.dx_stages.specs.Laws.{HasWords}
 use Rattle.dx_stages.specs.Worlds.{World}
 use Rattle.clio_accept.specs.declared.fault.AcceptFault.{AcceptFault}
 use Rattle.clio_accept.specs.declared.fault.AcceptFault.TheVariants as accept_faults
@@ -44,13 +45,15 @@ use Rattle.clio_accept.specs.Mapping.{source_sets_refusal as source_fault_refusa
 use Rattle.dx_schema_text.specs.declared.texts.LineText.{LineText}
 use Rattle.dx_schema_text.specs.declared.texts.MappingText.{MappingText}
 use Rattle.dx_model.specs.declared.rules.Rule.{Rule}
+use Rattle.dx_model.specs.Values.{Conversions}
 use Rattle.clio_source.specs.declared.fault.SourceRefusal.{SourceRefusal}
 use Rattle.clio_source.specs.declared.fault.SourceRefusal.TheVariants as source_refusals
 use Rattle.clio_ending.specs.declared.ending.Refusal.TheVariants as refusals
-use Rattle.clio_ending.specs.Ending.{exchange_refusal, source_refusal}
+use Rattle.clio_ending.specs.declared.faults.OtherFault.TheVariants as other_faults
+use Rattle.clio_ending.specs.Ending.{exchange_refusal, named_clash, source_refusal}
 use Rattle.clio_steps.specs.declared.texts.Side.{Side}
 use Rattle.clio_steps.specs.declared.texts.Side.TheVariants.{First, Second}
-use Rattle.clio_steps.specs.Steps.{MappingAndRows, Program, absent_text, exchange_input, exchanges, side_refusal as said_refusal, text_stages}
+use Rattle.clio_steps.specs.Steps.{Program, absent_text, exchanges, side_refusal as said_refusal, text_stages}
 
 -- ---- first faults
 
@@ -318,15 +321,32 @@ pub accepting_never : (list : List Conversion) (tests : List RowTest) (c : World
 accepting_never list tests c text (inl (k, h, is)) = text_kept k (λ e. text_told text (subst (IsMappingTextFault text) e h)) is
 accepting_never list tests c text (inr (m, p, h)) = said_never list tests c m h
 
+-- ---- words
+
+-- each refusal of a text has its word
+pub texts_have_words : (P : Program) (side : Side) → HasWords (said_refusal side) (accepting P.list P.tests)
+texts_have_words P First c text (accept_faults.Mapping fault) refused = (refusals.Mapping fault, refl)
+texts_have_words P First c text (accept_faults.Limit limit) refused = (refusals.Limit limit, refl)
+texts_have_words P First c text accept_faults.Memory refused = absurd (accepting_never P.list P.tests c text refused)
+texts_have_words P Second c text (accept_faults.Mapping fault) refused = (refusals.Other (other_faults.Mapping fault), refl)
+texts_have_words P Second c text (accept_faults.Limit limit) refused = (refusals.Limit limit, refl)
+texts_have_words P Second c text accept_faults.Memory refused = absurd (accepting_never P.list P.tests c text refused)
+
+-- so has each of an exchange
+pub exchanges_have_words : (convert : Conversions) (target : Forest) → HasWords (exchange_refusal target) (exchanging convert)
+exchanges_have_words convert target c asked (exchange_faults.Clash k) none = (named_clash target k, refl)
+exchanges_have_words convert target c asked (exchange_faults.Limit l) none = (refusals.Limit l, refl)
+exchanges_have_words convert target c asked exchange_faults.Memory none = absurd none
+
 -- ---- usage
 
-text_kept_as : (side : Side) (k : AcceptFault) → ¬ (k ≡ accept_faults.Memory) → ¬ (refusals.Usage ≡ said_refusal side k)
-text_kept_as First (accept_faults.Mapping fault) other is = cc
-text_kept_as First (accept_faults.Limit limit) other is = cc
-text_kept_as First accept_faults.Memory other is = other refl
-text_kept_as Second (accept_faults.Mapping fault) other is = cc
-text_kept_as Second (accept_faults.Limit limit) other is = cc
-text_kept_as Second accept_faults.Memory other is = other refl
+text_kept_as : (side : Side) (k : AcceptFault) → ¬ (said_refusal side k ≡ Some refusals.Usage)
+text_kept_as First (accept_faults.Mapping fault) is = cc
+text_kept_as First (accept_faults.Limit limit) is = cc
+text_kept_as First accept_faults.Memory is = cc
+text_kept_as Second (accept_faults.Mapping fault) is = cc
+text_kept_as Second (accept_faults.Limit limit) is = cc
+text_kept_as Second accept_faults.Memory is = cc
 
 absent_kept : (side : Side) → ¬ (refusals.Usage ≡ absent_text side)
 absent_kept First is = cc
@@ -336,19 +356,17 @@ pub source_rows_kept : (k : SourceRefusal) → ¬ (refusals.Usage ≡ source_ref
 source_rows_kept (source_refusals.Rows file fault) is = cc
 source_rows_kept (source_refusals.Limit limit) is = cc
 
-pub none_kept : (P : Program) (mode : Mode) (p : MappingAndRows) (target : Forest) (fault : ExFault) → HasNoExchange P.apply (exchange_input mode p) fault
-    → ¬ (refusals.Usage ≡ exchange_refusal target fault)
-none_kept P mode p target (exchange_faults.Clash k) h is = cc
-none_kept P mode p target (exchange_faults.Limit l) h is = cc
-none_kept P mode p target exchange_faults.Memory h is = h
+pub none_kept : (target : Forest) (fault : ExFault) → ¬ (exchange_refusal target fault ≡ Some refusals.Usage)
+none_kept target (exchange_faults.Clash k) is = cc
+none_kept target (exchange_faults.Limit l) is = cc
+none_kept target exchange_faults.Memory is = cc
 
 pub text_never : (P : Program) (side : Side) (c : World) → ¬ ((text_stages P side).refuses c (tt {0}) refusals.Usage)
 text_never P side c (inl (inl (none, is))) = absent_kept side is
 text_never P side c (inl (inr (bytes, held, many, is))) = cc
-text_never P side c (inr (text, there, (k, refused, is))) =
-    text_kept_as side k (λ e. accepting_never P.list P.tests c text (subst ((accepting P.list P.tests).refuses c text) e refused)) is
+text_never P side c (inr (text, there, (k, refused, is))) = text_kept_as side k is
 
 pub exchange_never : (P : Program) (mode : Mode) (c : World) → ¬ ((exchanges P mode).refuses c (tt {0}) refusals.Usage)
 exchange_never P mode c (inl m) = text_never P First c m
 exchange_never P mode c (inr (M, m, inl (k, refused, is))) = source_rows_kept k is
-exchange_never P mode c (inr (M, m, inr (p, r, (fault, none, is)))) = none_kept P mode p p.0.target fault none is
+exchange_never P mode c (inr (M, m, inr (p, r, (fault, none, is)))) = none_kept p.0.target fault is

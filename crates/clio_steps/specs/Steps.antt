@@ -1,9 +1,9 @@
 -- The stages that commands share: a mapping text, the rows of its source files, their exchange.
-use Rattle.std.specs.Prelude.{ℕ, List, codes}
+use Rattle.std.specs.Prelude.{ℕ, List, Option, codes}
 use Rattle.dx_ports.specs.declared.file.Count.TheVariants.{TextBytes}
 use Rattle.dx_ports.specs.declared.limits.TheConstants.{TEXT_BYTES, TARGET_CELLS}
 use Rattle.dx_model.specs.Values.{Conversions}
-use Rattle.dx_stages.specs.Stages.{Stage, next, by, over, into, file, saying}
+use Rattle.dx_stages.specs.Stages.{Stage, next, by, over, into, file, saying, saying_if}
 use Rattle.dx_schema.specs.Tables.{model_tables}
 use Rattle.dx_funcs.specs.declared.conversion.Conversion.{Conversion}
 use Rattle.dx_funcs.specs.declared.row_test.RowTest.{RowTest}
@@ -54,8 +54,8 @@ abbrev pub absent_text : Side → Refusal
 absent_text First = refusals.Mapping map_faults.Absent
 absent_text Second = refusals.Other other_faults.Absent
 
--- a fault of the text
-abbrev pub side_refusal : Side → AcceptFault → Refusal
+-- the refusal for a fault of the text
+abbrev pub side_refusal : Side → AcceptFault → Option Refusal
 side_refusal First = mapping_refusal
 side_refusal Second = other_refusal
 
@@ -67,7 +67,7 @@ text_file side = file (text_name side) text_bytes (absent_text side) too_long
 
 -- a mapping text, accepted
 abbrev pub text_stages : Program → Side → Stage Refusal (Unit {0}) Mapping
-text_stages P side = next (text_file side) (saying (side_refusal side) (accepting P.list P.tests))
+text_stages P side = next (text_file side) (saying_if (side_refusal side) (accepting P.list P.tests))
 
 -- the mapping text
 abbrev pub mapping_stages : Program → Stage Refusal (Unit {0}) Mapping
@@ -97,7 +97,7 @@ exchange_input mode p =
 
 -- the exchange of the rows; a clash is told with the names that the target has
 abbrev pub named_stage : Conversions → Mode → MappingAndRows → Stage Refusal MappingAndRows Exchange
-named_stage apply mode p = over (exchange_input mode) (saying (exchange_refusal p.0.target) (exchanging apply))
+named_stage apply mode p = over (exchange_input mode) (saying_if (exchange_refusal p.0.target) (exchanging apply))
 
 -- the exchange of the rows, beside the mapping
 abbrev pub target_stages : Program → Mode → Stage Refusal MappingAndRows (Mapping × Exchange)

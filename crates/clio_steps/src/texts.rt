@@ -1,7 +1,7 @@
 // The mapping texts, read and accepted.
-ghost use Rattle.std.specs.Prelude.{◌≡◌, ◌≤◌, length};
+ghost use Rattle.std.specs.Prelude.{◌≡◌, ◌≤◌, Some, length};
 ghost use Rattle.dx_stages.specs.Running.{Gives, Ran};
-ghost use Rattle.dx_stages.specs.Stages.{saying};
+ghost use Rattle.dx_stages.specs.Stages.{saying_if};
 ghost use Rattle.dx_funcs.specs.Judging.{tested};
 ghost use Rattle.dx_funcs.specs.Serving.{offered};
 ghost use Rattle.clio_accept.specs.Accepting.{accepting};
@@ -48,7 +48,7 @@ impl Side {
 
     // Its text has this fault.
     fn refusal(self, fault: MapFault) -> Refusal
-        ensures { result ≡ side_refusal self (MappingFault fault) }
+        ensures { side_refusal self (MappingFault fault) ≡ Some result }
     {
         match self {
             Side::First => Refusal::Mapping(fault),
@@ -70,7 +70,7 @@ where
     P: Fn(u32, &Text) -> Result<bool, AllocError>,
     M: Meaning,
     requires { length text.now ≤ text_bytes }
-    ensures { Gives (saying (side_refusal side) (accepting (offered host.now) (tested tests.now))) text.now result }
+    ensures { Gives (saying_if (side_refusal side) (accepting (offered host.now) (tested tests.now))) text.now result }
 {
     match accept(alloc, text, host, tests) {
         Ok(mapping) => Ok(mapping),

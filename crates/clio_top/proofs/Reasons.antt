@@ -1,4 +1,4 @@
--- Which reasons there are to refuse: usage is that of words, and want of memory is none.
+-- Which reasons there are to refuse: usage is that of words, and want of memory is none; each other one has its word.
 use Rattle.std.proofs.Common.{◌≡◌, ℕ, List, refl, ap, inl, inr, Option, Some, None, Err}
 use Rattle.dx_stages.specs.Worlds.{World}
 use Rattle.clio_ending.specs.declared.ending.Refusal.TheVariants as refusals
@@ -9,16 +9,21 @@ use Rattle.clio_top.specs.Words.{or_usage, says}
 use Rattle.clio_steps.specs.Steps.{Program}
 use Rattle.clio_top.specs.Demo.{demo_world}
 use Rattle.clio_top.specs.Commands.{IsInRange, run_stages, stages_of}
-use Rattle.clio_top.specs.Promises.{MemoryIsNoReason, UsageIsOfWords}
+use Rattle.clio_top.specs.Promises.{MemoryIsNoReason, ReasonsHaveWords, UsageIsOfWords}
 use Rattle.clio_top.proofs.Asked.{said}
 use Rattle.clio_top.proofs.Ranges.{says_ranged}
-use Rattle.clio_steps.proofs.Reasons.{accepting_never, text_never, exchange_never}
+use Rattle.clio_steps.proofs.Reasons.{accepting_never, exchanges_have_words, text_never, texts_have_words, exchange_never}
 use Rattle.clio_compare.proofs.Usage.{compare_never}
+use Rattle.clio_judge.proofs.JudgedIn.{verdicts_have_words}
 use Rattle.clio_judge.proofs.Usage.{judge_never}
+use Rattle.clio_answer.proofs.Queried.{queries_have_words}
 use Rattle.clio_answer.proofs.Usage.{answer_never}
 
 pub no_reason : MemoryIsNoReason
 no_reason P c text a = (accepting_never P.list P.tests c text, λ h. h)
+
+pub words_for_reasons : ReasonsHaveWords
+words_for_reasons P side target = (texts_have_words P side, queries_have_words target, exchanges_have_words P.apply target, verdicts_have_words P.apply)
 
 -- a command that words say
 command_never : (P : Program) (c : World) (k : Command) → IsInRange k → ¬ ((stages_of P k).refuses c (tt {0}) refusals.Usage)

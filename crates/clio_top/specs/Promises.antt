@@ -6,8 +6,9 @@ use Rattle.dx_ports.specs.Texts.{Text}
 use Rattle.dx_ports.specs.States.{OutputState}
 use Rattle.dx_stages.specs.declared.plan.Ended.TheVariants as endeds
 use Rattle.dx_stages.specs.Worlds.{World}
-use Rattle.dx_stages.specs.Laws.{IsDecided}
+use Rattle.dx_stages.specs.Laws.{HasWords, IsDecided}
 use Rattle.dx_stages.specs.Ending.{Ends}
+use Rattle.dx_schema.specs.Forest.{Forest}
 use Rattle.dx_keys.specs.declared.answers.Clash.{Clash}
 use Rattle.dx_exchange.specs.declared.mode.Mode.{Mode}
 use Rattle.dx_exchange.specs.declared.mode.Mode.TheVariants.{Plain}
@@ -16,6 +17,7 @@ use Rattle.dx_exchange.specs.declared.fault.ExFault.TheVariants as exchange_faul
 use Rattle.dx_exchange.specs.Exchanging.{ExchangeInput, exchanging}
 use Rattle.dx_queries.specs.declared.query.Query.{Query}
 use Rattle.dx_judge.specs.declared.verdict.Verdict.{Verdict}
+use Rattle.dx_judge.specs.Verdicts.{judging}
 use Rattle.dx_compare.specs.declared.comparing.Comparison.{Comparison}
 use Rattle.clio_accept.specs.declared.mapping.Mapping.{Mapping}
 use Rattle.clio_accept.specs.declared.fault.AcceptFault.TheVariants as accept_faults
@@ -25,12 +27,13 @@ use Rattle.clio_ending.specs.declared.ending.Answers.{Answers}
 use Rattle.clio_ending.specs.declared.ending.Done.{Done}
 use Rattle.clio_ending.specs.declared.ending.Done.TheVariants.{Answered, Compared, Demo, Exchanged, Judged, Shown}
 use Rattle.clio_ending.specs.declared.ending.Refusal.TheVariants as refusals
-use Rattle.clio_ending.specs.Ending.{AreAlike}
-use Rattle.clio_steps.specs.Steps.{Program, mapping_stages}
+use Rattle.clio_ending.specs.Ending.{AreAlike, exchange_refusal, query_refusal}
+use Rattle.clio_steps.specs.declared.texts.Side.{Side}
+use Rattle.clio_steps.specs.Steps.{Program, mapping_stages, side_refusal}
 use Rattle.clio_steps.specs.Outcomes.{IsClashIn, IsNextFile, Writing, wrote_all, HasNoSolutionIn}
-use Rattle.clio_answer.specs.Answering.{query_over, query_name}
+use Rattle.clio_answer.specs.Answering.{query_in_text, query_over, query_name}
 use Rattle.clio_answer.specs.Outcomes.{IsAnsweredIn}
-use Rattle.clio_judge.specs.Judging.{RowsAndBytes, rows_and_bytes, wanted_given}
+use Rattle.clio_judge.specs.Judging.{RowsAndBytes, judge_refusal, rows_and_bytes, wanted_given}
 use Rattle.clio_judge.specs.Outcomes.{IsJudgedIn, IsNextGiven}
 use Rattle.clio_compare.specs.Outcomes.{IsComparedIn}
 use Rattle.clio_top.specs.declared.command.Command.{Command}
@@ -151,6 +154,15 @@ abbrev pub MemoryIsNoReason : Type 0
 MemoryIsNoReason =
     (P : Program) (c : World) (text : List ℕ) (a : ExchangeInput)
     → (¬ ((accepting P.list P.tests).refuses c text accept_faults.Memory)) × (¬ ((exchanging P.apply).refuses c a exchange_faults.Memory))
+
+-- what a mapping text, a query's text, an exchange or a verdict is refused for has its word among the refusals of a run
+abbrev pub ReasonsHaveWords : Type 0
+ReasonsHaveWords =
+    (P : Program) (side : Side) (target : Forest)
+    → HasWords (side_refusal side) (accepting P.list P.tests)
+    × HasWords query_refusal (query_in_text target)
+    × HasWords (exchange_refusal target) (exchanging P.apply)
+    × HasWords judge_refusal (judging P.apply)
 
 -- no two files that an exchange writes have one name: each stands as it was put
 abbrev pub FilesHaveOwnNames : Type 0

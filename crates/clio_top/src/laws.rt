@@ -1,6 +1,6 @@
 // The laws of a run. The definitions alone carry them: no body computes anything.
 ghost use Rattle.clio_top.specs.Promises.{AskedInOrder, ClashesAreOfTexts, DoneIsAsAsked, FilesHaveOwnNames};
-ghost use Rattle.clio_top.specs.Promises.{MemoryIsNoReason, NoSolutionIsAClash, RefusedOrPlanned, UsageIsOfWords};
+ghost use Rattle.clio_top.specs.Promises.{MemoryIsNoReason, NoSolutionIsAClash, ReasonsHaveWords, RefusedOrPlanned, UsageIsOfWords};
 ghost use Rattle.clio_top.specs.Completing.{AnswersArePlanned, DemoIsAClash, DemoIsPlanned, MappingIsShown, NoAnswerIsAClash, SmallIsPlanned, SolutionIsPlanned};
 ghost use Rattle.clio_top.specs.FilesOf.{ExchangesCanBeWritten};
 ghost use Rattle.clio_top.specs.SmallWorld.{SmallIsWritten};
@@ -46,10 +46,12 @@ pub fn an_exchange_writes_this()
     ensures { SmallIsWritten }
 {}
 
-/// A run is refused with `Usage` exactly if its words say no command. Want of memory is no reason to refuse.
+/// A run is refused with `Usage` exactly if its words say no command. Want of memory is no reason to refuse, and each reason has its word
+/// among the refusals.
 pub fn usage_is_of_words()
     ensures usage { UsageIsOfWords }
     ensures memory { MemoryIsNoReason }
+    ensures words { ReasonsHaveWords }
 {}
 
 /// The call `files` takes the exchange of any rows under a mapping that fits, as each accepted one does.

@@ -1,10 +1,11 @@
 -- What stages keep when they are joined: proved once, for all.
 use Rattle.std.proofs.Common.{◌≡◌, ◌⊎◌, ◌<◌, ◌≤◌, ℕ, List, [], ◌∷◌, length, refl, sym, ◌∙◌, ap, subst, inl, inr, arith, Option, Some, None, Result, Ok, Err}
 use Rattle.std.proofs.lemmas.Bool.{cases_lt}
+use Rattle.std.proofs.lemmas.Option.{same_Some}
 use Rattle.dx_stages.specs.Worlds.{World}
-use Rattle.dx_stages.specs.Stages.{Stage, next, stay, each, by, over, into, saying, file, computing, testing, notions, checking, become}
+use Rattle.dx_stages.specs.Stages.{Stage, next, stay, each, by, over, into, saying, saying_if, file, computing, testing, notions, checking, become}
 use Rattle.dx_ports.specs.Members.{◌∈◌, here, there}
-use Rattle.dx_stages.specs.Laws.{PassesOne, IsDecided, Leads, AsksOtherFiles, AsksOnly}
+use Rattle.dx_stages.specs.Laws.{PassesOne, IsDecided, Leads, HasWords, AsksOtherFiles, AsksOnly}
 
 -- every value is given
 abbrev pub Any : {A : Type 0} → A → Type 0
@@ -123,6 +124,22 @@ saying_decided {E} {F} {A} {B} Alike Alike' Given f s h d = record {
     said : (c : World) (a : A) → ((b : B) × s.passes c a b) ⊎ ((e : E) × s.refuses c a e) → ((b : B) × s.passes c a b) ⊎ ((e : F) × (saying f s).refuses c a e)
     said c a (inl p) = inl p
     said c a (inr r) = inr (f r.0, (r.0, r.1, refl))
+
+-- what is one has one word
+pub one_word : {E F : Type 0} (word : E → Option F) (e k : E) (x y : F) → e ≡ k → word e ≡ Some x → word k ≡ Some y → x ≡ y
+one_word word e k x y is p q = same_Some x y (sym p ∙ ap word is ∙ q)
+
+pub saying_if_decided : {E F A B : Type 0} (Alike : E → E → Type 0) (Alike' : F → F → Type 0) (Given : A → Type 0) (word : E → Option F) (s : Stage E A B)
+    → ((e k : E) (x y : F) → Alike e k → word e ≡ Some x → word k ≡ Some y → Alike' x y) → HasWords word s → IsDecided Alike Given s → IsDecided Alike' Given (saying_if word s)
+saying_if_decided {E} {F} {A} {B} Alike Alike' Given word s h words d = record {
+  one = λ c a e k g p q. h p.0 q.0 e k (d.one c a p.0 q.0 g p.1 q.1) p.2 q.2;
+  never_both = λ c a b e g p r. d.never_both c a b r.0 g p r.1;
+  either = λ c a g. said c a (d.either c a g);
+}
+  where
+    said : (c : World) (a : A) → ((b : B) × s.passes c a b) ⊎ ((e : E) × s.refuses c a e) → ((b : B) × s.passes c a b) ⊎ ((e : F) × (saying_if word s).refuses c a e)
+    said c a (inl p) = inl p
+    said c a (inr r) = let f = words c a r.0 r.1 in inr (f.0, (r.0, r.1, f.1))
 
 -- ---- the first stages
 

@@ -1,5 +1,6 @@
 -- The notions on small values: what the inputs hold, what stages in a row refuse, pass and ask for, and what a run leaves.
-use Rattle.std.proofs.Common.{◌≡◌, ℕ, ◌+◌, List, [], ◌∷◌, ◌++◌, length, refl, sym, ap, inl, inr, arith, Option, Some, None, Result, Ok, Err}
+use Rattle.std.proofs.Common.{◌≡◌, ℕ, ◌+◌, List, [], ◌∷◌, ◌++◌, length, refl, sym, ap, inl, inr, arith, Option, Some, None, Result, Ok, Err, Bool, true, false}
+use Rattle.std.proofs.lemmas.Option.{none-some, same_Some}
 use Rattle.std.specs.FinMap.{get}
 use Rattle.dx_ports.specs.Entries.{Entry, FileMap}
 use Rattle.dx_ports.specs.Faults.{Rose}
@@ -8,7 +9,7 @@ use Rattle.dx_stages.specs.declared.stop.Stop.TheVariants as stops
 use Rattle.dx_stages.specs.declared.plan.Ended.{Ended}
 use Rattle.dx_stages.specs.declared.plan.Ended.TheVariants as endeds
 use Rattle.dx_stages.specs.Worlds.{World, IsOf, Found, HoldsFound, IsOnce}
-use Rattle.dx_stages.specs.Stages.{Stage, next, each, file, computing}
+use Rattle.dx_stages.specs.Stages.{Stage, next, each, file, computing, saying_if}
 use Rattle.dx_stages.specs.Running.{Meets, FailedAt}
 use Rattle.dx_stages.specs.Ending.{PlanContent, WroteAll, WroteFirst, Ends, Counts, IsOutside, IsRefusedAs}
 
@@ -114,6 +115,29 @@ puts x = computing (λ xs. Ok (xs ++ x ∷ []))
 
 first_comes_first : (c : World) → (each puts (1 ∷ 2 ∷ [])).passes c [] (1 ∷ 2 ∷ [])
 first_comes_first c = (1 ∷ [], refl, (1 ∷ 2 ∷ [], refl, refl))
+
+-- ---- refusals in other words: 7 is the word for one of two, and the other has none
+
+abbrev refuses_it : Stage Bool Bool ℕ
+refuses_it = computing (λ b. Err b)
+
+abbrev seven_or_none : Bool → Option ℕ
+seven_or_none true = Some 7
+seven_or_none false = None
+
+its_word_is_said : (c : World) → (saying_if seven_or_none refuses_it).refuses c true 7
+its_word_is_said c = (true, refl, refl)
+
+nothing_else_is_said : (c : World) → ¬ ((saying_if seven_or_none refuses_it).refuses c true 8)
+nothing_else_is_said c (true, failed, is) = let e : 7 ≡ 8 = same_Some 7 8 is in omega (arith, e)
+nothing_else_is_said c (false, failed, is) = none-some 8 is
+
+one_of_two : (r : Result ℕ Bool) → r ≡ Err true → r ≡ Err false → ⊥
+one_of_two r p q = cc
+
+without_a_word_nothing_is_said : (c : World) (e : ℕ) → ¬ ((saying_if seven_or_none refuses_it).refuses c false e)
+without_a_word_nothing_is_said c e (true, failed, is) = one_of_two (Err false) failed refl
+without_a_word_nothing_is_said c e (false, failed, is) = none-some e is
 
 -- ---- what is counted
 

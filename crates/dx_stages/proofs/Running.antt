@@ -1,5 +1,5 @@
 -- What is computed of stages in a row, from what is computed of each.
-use Rattle.std.proofs.Common.{◌≡◌, ◌⊎◌, ◌≤◌, ℕ, List, [], ◌∷◌, ◌++◌, refl, sym, ◌∙◌, subst, inl, inr, arith, Option, Result, Ok, Err}
+use Rattle.std.proofs.Common.{◌≡◌, ◌⊎◌, ℕ, List, [], ◌∷◌, ◌++◌, refl, sym, ◌∙◌, subst, inl, inr, arith, Option, Some, Result, Ok, Err}
 use Rattle.std.specs.Result.{IsErrAnd}
 use Rattle.dx_ports.specs.Entries.{FileMap}
 use Rattle.dx_ports.specs.Faults.{Rose}
@@ -7,7 +7,7 @@ use Rattle.dx_ports.specs.States.{InputState}
 use Rattle.dx_stages.specs.declared.stop.Stop.{Stop}
 use Rattle.dx_stages.specs.declared.stop.Stop.TheVariants as stops
 use Rattle.dx_stages.specs.Worlds.{World, Agrees, HoldsFound, WasAsked}
-use Rattle.dx_stages.specs.Stages.{Stage, next, stay, each, by, over, into, file, saying, become}
+use Rattle.dx_stages.specs.Stages.{Stage, next, stay, each, by, over, into, file, saying, saying_if, become}
 use Rattle.dx_stages.specs.Laws.{AsksOtherFiles}
 use Rattle.dx_stages.specs.Running.{Answers, Meets, Gives, FailedAt, Ran, with_refusal}
 use Rattle.dx_stages.proofs.Worlds.{agrees_both, told_both, has_either, once_both, a_world}
@@ -287,14 +287,14 @@ ran_passes s a b old new x =
 
 -- ---- refusals said in other words
 
-pub answer_passes : {E F A B : Type 0} (memory : E) (f : E → F) (s : Stage E A B) (a : A) (r : Result B E) (b : B) → r ≡ Ok b → Answers memory s a r → Gives (saying f s) a (Ok b)
-answer_passes memory f s a r b is h = subst (Answers memory s a) is h
+pub answer_passes : {E F A B : Type 0} (memory : E) (word : E → Option F) (s : Stage E A B) (a : A) (r : Result B E) (b : B) → r ≡ Ok b → Answers memory s a r → Gives (saying_if word s) a (Ok b)
+answer_passes memory word s a r b is h = subst (Answers memory s a) is h
 
-pub answer_refuses : {E F A B : Type 0} (memory : E) (f : E → F) (s : Stage E A B) (a : A) (r : Result B E) (e : E) (k : F) → r ≡ Err e → ¬ (e ≡ memory) → k ≡ f e → Answers memory s a r
-    → Gives (saying f s) a (Err (stops.Refused k))
-answer_refuses memory f s a r e k is other k_is h = of (subst (Answers memory s a) is h)
+pub answer_refuses : {E F A B : Type 0} (memory : E) (word : E → Option F) (s : Stage E A B) (a : A) (r : Result B E) (e : E) (k : F) → r ≡ Err e → ¬ (e ≡ memory) → word e ≡ Some k
+    → Answers memory s a r → Gives (saying_if word s) a (Err (stops.Refused k))
+answer_refuses memory word s a r e k is other k_is h = of (subst (Answers memory s a) is h)
   where
-    of : (e ≡ memory) ⊎ ((c : World) → s.refuses c a e) → Gives (saying f s) a (Err (stops.Refused k))
+    of : (e ≡ memory) ⊎ ((c : World) → s.refuses c a e) → Gives (saying_if word s) a (Err (stops.Refused k))
     of (inl m) = absurd (other m)
     of (inr r) = λ c. (e, r c, k_is)
 

@@ -73,6 +73,14 @@ saying {E} {F} {A} {B} f s = record {
   asks = s.asks;
 }
 
+-- it says those of its refusals so that have a word; with the others it doesn't refuse
+abbrev pub saying_if : {E F A B : Type 0} → (E → Option F) → Stage E A B → Stage F A B
+saying_if {E} {F} {A} {B} word s = record {
+  refuses = λ c a e. (k : E) × s.refuses c a k × (word k ≡ Some e);
+  passes = s.passes;
+  asks = s.asks;
+}
+
 -- ---- the first stages
 
 -- a file of this name, which may have so many bytes; it says this if the file is absent, and that if it is too long

@@ -1,4 +1,4 @@
-use Rattle.std.proofs.Common.{◌∙◌, refl, ap, Err}
+use Rattle.std.proofs.Common.{◌∙◌, refl, sym, ap, Some, Err}
 use Rattle.dx_exchange.specs.declared.fault.ExFault.TheVariants as faults
 use Rattle.dx_exchange.specs.Exchanging.{exchanging}
 use Rattle.dx_stages.proofs.Running.{answer_passes, answer_refuses}
@@ -15,7 +15,7 @@ pub returns-in_ok-named_clash-in-Err-Clash : goal.returns-in_ok-named_clash-in-E
 returns-in_ok-named_clash-in-Err-Clash g c =
     let clash = c.in-Err-Clash.clash in
     answer_refuses faults.Memory (exchange_refusal c.args.mapping.now.target) (exchanging g.M.Meaning.apply) (exchange_input c.args.mode (c.args.mapping.now, c.args.rows.now)) c.exchange.result (faults.Clash clash) c.in_ok-named_clash-in-Err-Clash.field-0
-    (c.in-Err-Clash.is ∙ ap Err c.in-Err-Clash.field-0-is) (λ e. cc) c.in_ok-named_clash-in-Err-Clash.ensures (rw c.items-rules.ensures at c.exchange.ensures)
+    (c.in-Err-Clash.is ∙ ap Err c.in-Err-Clash.field-0-is) (λ e. cc) (ap Some (sym c.in_ok-named_clash-in-Err-Clash.ensures)) (rw c.items-rules.ensures at c.exchange.ensures)
 
 pub returns-in-Err-Limit : goal.returns-in-Err-Limit
 returns-in-Err-Limit g c =
