@@ -199,24 +199,18 @@ fn add_map_made(
 pub(crate) fn has_met(cell: &Cell, meetings: &[Meeting]) -> bool
     ensures { result ≡ has_met_in meetings.now cell.now }
 {
-    for meeting in meetings {
-        if is_same_cell(cell, &meeting.cell) {
-            return true;
-        }
-    }
-    false
+    meetings
+        .iter()
+        .any(|meeting| is_same_cell(cell, &meeting.cell))
 }
 
 /// Whether each of the variables has met a cell.
 pub(crate) fn have_met(variables: &[u32], meetings: &[Meeting]) -> bool
     ensures { result ≡ list_all (λ x. has_met_in meetings.now (VarCell x)) variables.now }
 {
-    for variable in variables {
-        if !has_met(&Cell::Var(*variable), meetings) {
-            return false;
-        }
-    }
-    true
+    variables
+        .iter()
+        .all(|variable| has_met(&Cell::Var(*variable), meetings))
 }
 
 /// Whether it is known that all cell maps that begin with these meetings agree with one that is found.

@@ -12,3 +12,4 @@ pub mod Made
 pub mod Widths
 pub mod FitsTest
 mod Examples
+pub mod Asking

@@ -50,12 +50,7 @@ fn is_table(schema: &Schema, name: &Text) -> bool
 pub(crate) fn are_tables(schema: &Schema, names: &[Text]) -> bool
     ensures { IsTrue result ↔ Each names.now (λ name. name ∈ table_names (table_names_of schema.now)) }
 {
-    for name in names {
-        if !is_table(schema, name) {
-            return false;
-        }
-    }
-    true
+    names.iter().all(|name| is_table(schema, name))
 }
 
 /// Whether a cell is a column of the table of its alias.
@@ -70,12 +65,7 @@ fn cell_fits(source: &Schema, sources: &[Text], cell: &CellRef) -> bool
 fn cells_fit(source: &Schema, sources: &[Text], cells: &[CellRef]) -> bool
     ensures { IsTrue result ↔ Each cells.now (CellFits (table_names_of source.now) sources.now) }
 {
-    for cell in cells {
-        if !cell_fits(source, sources, cell) {
-            return false;
-        }
-    }
-    true
+    cells.iter().all(|cell| cell_fits(source, sources, cell))
 }
 
 /// Whether a conversion of this name is listed, which takes so many texts.
@@ -118,12 +108,9 @@ pub(crate) fn selects_fit<F: Fn(u32, &Items<Text>) -> Result<Text, AllocError>, 
 ) -> bool
     ensures { IsTrue result ↔ Each selects.now (SelectFits (table_names_of source.now) (offered host.now) sources.now) }
 {
-    for select in selects {
-        if !select_fits(source, host, sources, select) {
-            return false;
-        }
-    }
-    true
+    selects
+        .iter()
+        .all(|select| select_fits(source, host, sources, select))
 }
 
 /// Whether two cells that are to be equal fit.
@@ -137,12 +124,9 @@ fn equal_fits(source: &Schema, sources: &[Text], equal: &Equal) -> bool
 pub(crate) fn equals_fit(source: &Schema, sources: &[Text], equals: &[Equal]) -> bool
     ensures { IsTrue result ↔ Each equals.now (EqualFits (table_names_of source.now) sources.now) }
 {
-    for equal in equals {
-        if !equal_fits(source, sources, equal) {
-            return false;
-        }
-    }
-    true
+    equals
+        .iter()
+        .all(|equal| equal_fits(source, sources, equal))
 }
 
 /// Whether the match table of a rule has the column.
