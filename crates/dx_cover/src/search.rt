@@ -73,12 +73,7 @@ pub(crate) fn are_same_cells(a: &[Cell], b: &[Cell]) -> bool
 pub(crate) fn is_seen(found: &[CellMap], map: &CellMap) -> bool
     ensures { result ≡ agrees_with_one found.now map.now }
 {
-    for other in found {
-        if are_same_cells(other.exported.items(), map.exported.items()) {
-            return true;
-        }
-    }
-    false
+    found.iter().any(|other| are_same_cells(other.exported.items(), map.exported.items()))
 }
 
 // The meeting of two cells.

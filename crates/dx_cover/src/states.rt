@@ -32,24 +32,14 @@ pub(crate) struct Search {
 pub(crate) fn is_among(cell: &Cell, cells: &[Cell]) -> bool
     ensures { result ≡ list_any (same_cell cell.now) cells.now }
 {
-    for other in cells {
-        if is_same_cell(cell, other) {
-            return true;
-        }
-    }
-    false
+    cells.iter().any(|other| is_same_cell(cell, other))
 }
 
 /// Whether a cell stands in these atoms.
 pub(crate) fn is_in(cell: &Cell, rest: &[Atom]) -> bool
     ensures { result ≡ stands_in rest.now cell.now }
 {
-    for atom in rest {
-        if is_among(cell, atom.cells.items()) {
-            return true;
-        }
-    }
-    false
+    rest.iter().any(|atom| is_among(cell, atom.cells.items()))
 }
 
 /// Whether a cell counts for the rest: it stands there, or is an exported variable if those count.
@@ -111,12 +101,7 @@ pub(crate) fn is_same_state(a: &State, b: &State) -> bool
 pub(crate) fn is_known(state: &State, states: &[State]) -> bool
     ensures { result ≡ list_any (same_state state.now) states.now }
 {
-    for other in states {
-        if is_same_state(state, other) {
-            return true;
-        }
-    }
-    false
+    states.iter().any(|other| is_same_state(state, other))
 }
 
 /// Adds a state to these, if there is room.

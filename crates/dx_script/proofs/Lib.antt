@@ -12,4 +12,3 @@ pub mod Made
 pub mod Widths
 pub mod FitsTest
 mod Examples
-pub mod Asking

@@ -50,7 +50,12 @@ fn is_table(schema: &Schema, name: &Text) -> bool
 pub(crate) fn are_tables(schema: &Schema, names: &[Text]) -> bool
     ensures { IsTrue result ↔ Each names.now (λ name. name ∈ table_names (table_names_of schema.now)) }
 {
-    names.iter().all(|name| is_table(schema, name))
+    for name in names {
+        if !is_table(schema, name) {
+            return false;
+        }
+    }
+    true
 }
 
 /// Whether a cell is a column of the table of its alias.
@@ -65,7 +70,12 @@ fn cell_fits(source: &Schema, sources: &[Text], cell: &CellRef) -> bool
 fn cells_fit(source: &Schema, sources: &[Text], cells: &[CellRef]) -> bool
     ensures { IsTrue result ↔ Each cells.now (CellFits (table_names_of source.now) sources.now) }
 {
-    cells.iter().all(|cell| cell_fits(source, sources, cell))
+    for cell in cells {
+        if !cell_fits(source, sources, cell) {
+            return false;
+        }
+    }
+    true
 }
 
 /// Whether a conversion of this name is listed, which takes so many texts.
@@ -108,9 +118,12 @@ pub(crate) fn selects_fit<F: Fn(u32, &Items<Text>) -> Result<Text, AllocError>, 
 ) -> bool
     ensures { IsTrue result ↔ Each selects.now (SelectFits (table_names_of source.now) (offered host.now) sources.now) }
 {
-    selects
-        .iter()
-        .all(|select| select_fits(source, host, sources, select))
+    for select in selects {
+        if !select_fits(source, host, sources, select) {
+            return false;
+        }
+    }
+    true
 }
 
 /// Whether two cells that are to be equal fit.
@@ -124,9 +137,12 @@ fn equal_fits(source: &Schema, sources: &[Text], equal: &Equal) -> bool
 pub(crate) fn equals_fit(source: &Schema, sources: &[Text], equals: &[Equal]) -> bool
     ensures { IsTrue result ↔ Each equals.now (EqualFits (table_names_of source.now) sources.now) }
 {
-    equals
-        .iter()
-        .all(|equal| equal_fits(source, sources, equal))
+    for equal in equals {
+        if !equal_fits(source, sources, equal) {
+            return false;
+        }
+    }
+    true
 }
 
 /// Whether the match table of a rule has the column.

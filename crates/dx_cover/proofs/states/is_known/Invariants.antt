@@ -1,7 +1,0 @@
-use Rattle.std.proofs.Common.{◌≡◌, drop}
-use Rattle.std.specs.List.{list_any}
-use Rattle.dx_cover.specs.States.{same_state}
-use Rattle.dx_cover.proofs.states.is_known.Given as goal
-
-abbrev pub invariant-loop-other : goal.invariant-loop-other
-invariant-loop-other l = list_any (same_state l.state) (drop l.other-index l.states) ≡ list_any (same_state l.state) l.states
