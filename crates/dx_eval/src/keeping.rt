@@ -124,10 +124,11 @@ fn left_by_parts(
     ensures { IfOk result (λ v.
         KeepsPlaces (LacksPartners of.now.symbols.now of.now.tables.now of.now.rule unless.now) places.items v.items) }
 {
-    let own = &of.tables[of.rule as usize];
+    let tables = of.tables;
+    let own = &tables[of.rule as usize];
     let mut left = places;
     for part in unless {
-        let other = &of.tables[part.rule as usize];
+        let other = &tables[part.rule as usize];
         left = left_by_part(alloc, &left, own, other, part.tests.items(), of.symbols)?;
     }
     Ok(left)
@@ -157,7 +158,8 @@ pub(crate) fn stay_places(
     requires { (r : ℕ) (unless : List AnyUnless) → KeepRows r unless ∈ steps.now → Each unless (PartStands of.now.tables.now r) }
     ensures { IfOk result (λ v. Stay steps.now (tuples_in of.now.symbols.now of.now.tables.now) of.now.rule v.items) }
 {
-    let mut places = all_places(alloc, of.tables[of.rule as usize].count())?;
+    let tables = of.tables;
+    let mut places = all_places(alloc, tables[of.rule as usize].count())?;
     for step in steps {
         if let Step::KeepRows {
             rule: number,

@@ -12,7 +12,7 @@ use Rattle.dx_eval.proofs.keeping.stay_places.Goals as goal
 
 pub loop-step-init : goal.loop-step-init
 loop-step-init c =
-    let e = table_read c.args.of.now.tables.now c.args.of.now.rule c.index-of-of.result c.args.of.now.there c.index-of-of.is in
+    let e = table_read c.args.of.now.tables.now c.args.of.now.rule c.index-tables-of.result c.args.of.now.there c.index-tables-of.is in
     stay_start c.args.of.now.symbols.now c.args.of.now.tables.now c.args.of.now.rule c.count.result c.in_ok-places.places.items (c.count.ensures.count ∙ ap (λ (t : NumberTable). length t.rows) e) c.in_ok-places.ensures
 
 pub left_by_parts-requires-clause-places : goal.left_by_parts-requires-clause-places
