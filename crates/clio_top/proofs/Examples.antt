@@ -265,7 +265,7 @@ is_text = record {
 not_in : (l : Link) (ls : List Link) → ls ≡ [] → ¬ (l ∈ ls)
 not_in l ls e m = elim (subst (λ ks. l ∈ ks) e m) [ ]
 
-no_links : (f : Forest) → ((t : ℕ) → every_link (table_of (model_tables f) t) ≡ []) → IsAcyclic (model_tables f)
+pub no_links : (f : Forest) → ((t : ℕ) → every_link (table_of (model_tables f) t) ≡ []) → IsAcyclic (model_tables f)
 no_links f empty = record {
   no_cycle = λ t h. never t t h;
   within = λ t l m. absurd (not_in l (every_link (table_of (model_tables f) t)) (empty t) m);

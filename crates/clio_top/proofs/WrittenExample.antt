@@ -305,12 +305,12 @@ mapping_of P held M is a =
 rows_are : (P : Program) (I : List TableRows) → (source_stages P.passes).passes world (wanted mapping) I → I ≡ rows
 rows_are P I s = source_one P.passes world (wanted mapping) I rows s (is_source P)
 
-mode_in : Command → Mode
+pub mode_in : Command → Mode
 mode_in (Exchanging mode nested) = mode
 mode_in (Showing mode) = mode
 mode_in _ = Plain
 
-nested_in : Command → Bool
+pub nested_in : Command → Bool
 nested_in (Exchanging mode nested) = nested
 nested_in _ = false
 

@@ -1,10 +1,11 @@
-pub mod Demo
-pub mod Running
-pub mod Words
 pub mod Commands
 pub mod Completing
+pub mod Demo
 pub mod FilesOf
+pub mod KeyedWorlds
+pub mod Leaving
 pub mod Outcomes
 pub mod Promises
-pub mod Leaving
+pub mod Running
 pub mod SmallWorld
+pub mod Words

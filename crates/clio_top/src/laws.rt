@@ -4,6 +4,7 @@ ghost use Rattle.clio_top.specs.Promises.{MemoryIsNoReason, NoSolutionIsAClash, 
 ghost use Rattle.clio_top.specs.Completing.{AnswersArePlanned, DemoIsAClash, DemoIsPlanned, MappingIsShown, NoAnswerIsAClash, SmallIsPlanned, SolutionIsPlanned};
 ghost use Rattle.clio_top.specs.FilesOf.{ExchangesCanBeWritten};
 ghost use Rattle.clio_top.specs.SmallWorld.{SmallIsWritten};
+ghost use Rattle.clio_top.specs.KeyedWorlds.{ClashIsRefused, ClashIsThis, KeyedIsPlanned, KeyedIsWritten};
 
 /// There is one reason to refuse a run, or a plan, and never both.
 pub fn refused_or_planned()
@@ -44,6 +45,20 @@ pub fn an_exchange_is_planned()
 /// What an exchange that is done there writes, in plain mode, is exactly five files and a summary, byte by byte.
 pub fn an_exchange_writes_this()
     ensures { SmallIsWritten }
+{}
+
+/// In a world of two employees of one department, whose name is a key, an exchange is planned; what it writes when it is done, in
+/// plain mode, is exactly six files and a summary: the department's two numbers, which are not known, are one, and the fold says so.
+pub fn a_key_makes_one()
+    ensures planned { KeyedIsPlanned }
+    ensures written { KeyedIsWritten }
+{}
+
+/// In a world of an employee with two departments, and persons whose name is a key, an exchange is refused in each mode, with a clash
+/// of these two rows, by these names.
+pub fn a_clash_is_told()
+    ensures refused { ClashIsRefused }
+    ensures this { ClashIsThis }
 {}
 
 /// A run is refused with `Usage` exactly if its words say no command. Want of memory is no reason to refuse, and each reason has its word
