@@ -1,10 +1,9 @@
 -- The worked example of a clash: an employee with two departments, and persons whose name is a key. There is no solution, so an exchange
 -- is refused, and what is told is this person's name, the column, and the two rows.
-use Rattle.std.proofs.Common.{◌≡◌, ◌⊎◌, ◌≤◌, ◌<◌, ℕ, zero, suc, List, [], ◌∷◌, ◌++◌, get_or, inl, inr, refl, sym, ◌∙◌, ap, subst, arith, Some, None, Bool, true, false, length, map}
+use Rattle.std.proofs.Common.{◌≡◌, ◌⊎◌, ◌≤◌, ◌<◌, ℕ, zero, suc, List, [], ◌∷◌, get_or, inl, inr, refl, sym, ◌∙◌, ap, subst, arith, Some, None, false, length}
 use Rattle.std.specs.Prelude.{codes}
 use Rattle.std.specs.Cmp.Lexicographic.{nat_list_cmp_total}
 use Rattle.std.specs.FinMap.{from_entries, get-insert}
-use Rattle.std.specs.Str.{IsAscii}
 use Rattle.std.specs.declared.cmp.Ordering.TheVariants.{Less}
 use Rattle.std.proofs.lemmas.Option.{same_Some}
 use Rattle.csv.specs.Machine.{next_record}
@@ -19,11 +18,11 @@ use Rattle.dx_model.specs.declared.rules.Cell.TheVariants.{Var}
 use Rattle.dx_model.specs.declared.rules.Rule.{Rule}
 use Rattle.dx_model.specs.declared.values.Value.{Value}
 use Rattle.dx_model.specs.declared.values.Value.TheVariants.{Const, Null}
-use Rattle.dx_model.specs.Chase.{AreSteps, IsClashAt, IsKeyStep, after}
+use Rattle.dx_model.specs.Chase.{AreSteps, IsClashAt, after}
 use Rattle.dx_model.specs.Covers.{least_cover}
-use Rattle.dx_model.specs.Rules.{AreRows, IsMatch, Satisfies, canonical, fact_of_atom}
+use Rattle.dx_model.specs.Rules.{AreRows, canonical}
 use Rattle.dx_model.specs.Solutions.{IsSolution}
-use Rattle.dx_model.specs.Tables.{Determination, Table, cell, fact_of_row, table_of, values_in, determination_at}
+use Rattle.dx_model.specs.Tables.{Determination, Table, cell, fact_of_row, table_of, determination_at}
 use Rattle.dx_model.specs.Values.{Conversions, Rows, row_cmp}
 use Rattle.dx_model.proofs.ByMembers.{uncovered_is_part}
 use Rattle.dx_instance.specs.Stored.{TableRows, facts}
@@ -49,7 +48,6 @@ use Rattle.dx_keys.specs.Answers.{IsClash}
 use Rattle.dx_exchange.specs.declared.mode.Mode.{Mode}
 use Rattle.dx_exchange.specs.declared.mode.Mode.TheVariants.{Core, Plain}
 use Rattle.dx_exchange.specs.Exchanging.{HasClash, meant}
-use Rattle.dx_stages.specs.Worlds.{World}
 use Rattle.clio_accept.specs.declared.mapping.Mapping.{Mapping}
 use Rattle.clio_accept.specs.Accepting.{accepting, between_of, taking}
 use Rattle.clio_accept.specs.Mapping.{AreRulesOf, NoneReserved}
@@ -58,19 +56,16 @@ use Rattle.clio_source.specs.Source.{source_stages}
 use Rattle.clio_source.proofs.Decided.{source_one}
 use Rattle.clio_ending.specs.declared.ending.Refusal.{Refusal}
 use Rattle.clio_ending.specs.declared.ending.Refusal.TheVariants as refusals
-use Rattle.clio_ending.specs.Ending.{column_text, left_columns, named_clash}
+use Rattle.clio_ending.specs.Ending.{named_clash}
 use Rattle.clio_steps.specs.Outcomes.{HasNoSolutionIn, IsClashIn}
 use Rattle.clio_steps.specs.Steps.{Program, exchange_input, target_cells, wanted}
-use Rattle.clio_top.specs.declared.command.Command.{Command}
 use Rattle.clio_top.specs.declared.command.Command.TheVariants.{Answering, Demonstrating, Exchanging}
-use Rattle.clio_top.specs.Commands.{run_stages}
 use Rattle.clio_top.specs.KeyedWorlds.{ClashIsRefused, ClashIsThis, IsSmallClash, clash_text, clash_world, exchange_words}
-use Rattle.clio_top.specs.Promises.{IsClashOf}
 use Rattle.clio_top.specs.Words.{Word, says}
 use Rattle.clio_top.proofs.Clashes.{no_solution}
-use Rattle.clio_top.proofs.Examples.{no_links}
+use Rattle.clio_top.proofs.Examples.{ann_ascii, mark, no_links, word}
 use Rattle.clio_top.proofs.OneRule.{is_left, not_tested}
-use Rattle.clio_top.proofs.TwoEmps.{TwoEmps, emp_side, emps, emps_are, is_source, mark, matched_first, matched_second, matches_are, of_emps, rows, t0, t1, t10, t11, t12, t13, t14, t15, t2, t3, t4, t5, t6, t7, t8, t9, tuples, whole, word}
+use Rattle.clio_top.proofs.TwoEmps.{TwoEmps, emp_side, emps, emps_are, hr_ascii, is_source, it_ascii, matched_first, matched_second, matches_are, of_emps, rows, t0, t1, t10, t11, t12, t13, t14, t15, t2, t3, t4, t5, t6, t7, t8, t9, tuples, whole}
 
 -- ---- what is held
 
@@ -311,22 +306,6 @@ accepted P = (said, is_text, (said, (emps_are, refl), (said, (persons_are, refl)
 
 -- ---- the rows
 
-ann : IsAscii (codes "ann")
-ann zero = omega arith
-ann (suc zero) = omega arith
-ann (suc (suc zero)) = omega arith
-ann (suc (suc (suc i))) = omega arith
-
-hr : IsAscii (codes "hr")
-hr zero = omega arith
-hr (suc zero) = omega arith
-hr (suc (suc i)) = omega arith
-
-it : IsAscii (codes "it")
-it zero = omega arith
-it (suc zero) = omega arith
-it (suc (suc i)) = omega arith
-
 records_are : table_records emp_bytes
     ≡ (codes "name" ∷ codes "dept" ∷ []) ∷ (codes "ann" ∷ codes "hr" ∷ []) ∷ (codes "ann" ∷ codes "it" ∷ []) ∷ []
 unfolding records_from next_record strip_bom
@@ -342,8 +321,8 @@ two = record {
   second = codes "ann";
   second_dept = codes "it";
   records = records_are;
-  first_whole = whole (codes "ann") (codes "hr") ann hr;
-  second_whole = whole (codes "ann") (codes "it") ann it;
+  first_whole = whole (codes "ann") (codes "hr") ann_ascii hr_ascii;
+  second_whole = whole (codes "ann") (codes "it") ann_ascii it_ascii;
   rows_less = refl;
   tuples_less = refl;
 }

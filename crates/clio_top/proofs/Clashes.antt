@@ -1,10 +1,8 @@
 -- When a run is refused with a clash.
-use Rattle.std.proofs.Common.{◌≡◌, ℕ, List, refl, sym, ◌∙◌, ap, inl, inr, Option, Some, None, Err, true, false}
+use Rattle.std.proofs.Common.{◌≡◌, ℕ, List, refl, sym, ◌∙◌, ap, inl, inr, Option, Some, None, Err, false}
 use Rattle.std.proofs.lemmas.Bool.{true≢false}
-use Rattle.dx_ports.specs.declared.file.Limit.{Limit}
 use Rattle.dx_keys.specs.declared.answers.Clash.{Clash}
 use Rattle.dx_stages.specs.Worlds.{World}
-use Rattle.clio_accept.specs.declared.mapping.Mapping.{Mapping}
 use Rattle.clio_ending.specs.declared.ending.Refusal.{Refusal}
 use Rattle.clio_ending.specs.declared.ending.Refusal.TheVariants as refusals
 use Rattle.clio_top.specs.declared.command.Command.{Command}

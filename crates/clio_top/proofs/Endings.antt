@@ -1,5 +1,5 @@
 -- From an ending back to how the run ended.
-use Rattle.std.proofs.Common.{◌≡◌, ℕ, List, refl, sym, ◌∙◌, ap, subst, Option, Some, None}
+use Rattle.std.proofs.Common.{◌≡◌, ℕ, List, refl, sym, ◌∙◌, ap, Option, Some, None}
 use Rattle.std.proofs.lemmas.Option.{none-some, same_Some}
 use Rattle.dx_keys.specs.declared.answers.Clash.{Clash}
 use Rattle.dx_stages.specs.declared.plan.Ended.{Ended}

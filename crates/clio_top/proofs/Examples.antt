@@ -1,11 +1,10 @@
 -- The first worked example: employees by their names, of which persons are made, who have a telephone that is not known. The names are ann
 -- and bob. There is a solution, so an exchange is planned, in each mode.
-use Rattle.std.proofs.Common.{◌≡◌, ◌⊎◌, ◌≤◌, ◌<◌, ◌-◌, ℕ, zero, suc, List, [], ◌∷◌, ◌++◌, length, get_or, inr, inl, refl, sym, ◌∙◌, ap, subst, arith, Some, None, Ok, Bool, true, false}
+use Rattle.std.proofs.Common.{◌≡◌, ◌⊎◌, ◌≤◌, ◌-◌, ℕ, zero, suc, List, [], ◌∷◌, length, get_or, inr, inl, refl, sym, ◌∙◌, ap, subst, arith, Some, None, false}
 use Rattle.std.specs.Prelude.{codes, All}
 use Rattle.std.specs.Cmp.Lexicographic.{nat_list_cmp_total}
 use Rattle.std.specs.declared.cmp.Ordering.TheVariants.{Less}
 use Rattle.std.specs.FinMap.{from_entries, get-insert}
-use Rattle.std.proofs.lemmas.List.{length-append}
 use Rattle.std.specs.Str.{IsAscii}
 use Rattle.std.proofs.lemmas.Str.{IsUtf8-from_ascii}
 use Rattle.csv.specs.Machine.{next_record}
@@ -20,17 +19,16 @@ use Rattle.dx_model.specs.declared.rules.Rule.{Rule}
 use Rattle.dx_model.specs.declared.tables.Link.{Link}
 use Rattle.dx_model.specs.declared.values.Value.{Value}
 use Rattle.dx_model.specs.declared.values.Value.TheVariants.{Const}
-use Rattle.dx_model.specs.Following.{CanGo, PrunedAfter, underived}
 use Rattle.dx_model.specs.Rules.{AreRows, IsMatch, IsRows, Satisfies, premise_fact, fact_of_atom as said_fact}
 use Rattle.dx_model.specs.Solutions.{IsSolution}
-use Rattle.dx_model.specs.Tables.{Determination, FactFits, PairObeys, RowsObey, table_of}
+use Rattle.dx_model.specs.Tables.{Determination, FactFits, RowsObey, table_of}
 use Rattle.dx_model.specs.Values.{Conversions, Rows, RowsAscend, Tuple, row_cmp, tuple_cmp}
 use Rattle.dx_ports.specs.Texts.{Text}
 use Rattle.dx_model.proofs.RowsExist.{one_rows}
 use Rattle.dx_instance.specs.Stored.{TableRows, facts, rows_of}
 use Rattle.dx_schema.specs.Forest.{Forest, Tree, none, set}
 use Rattle.dx_schema.specs.Links.{IsAcyclic, IsFaultless, LeadsByLinks, directly, every_link, further}
-use Rattle.dx_schema.specs.Tables.{model_tables, schema_table, tables_of}
+use Rattle.dx_schema.specs.Tables.{model_tables}
 use Rattle.dx_grammar.specs.Readers.{no_more, one_more}
 use Rattle.dx_tokens.specs.declared.tokenizer.TokenKind.TheVariants.{Mark, Number, Word}
 use Rattle.dx_tokens.specs.declared.scanner.Lexeme.{Lexeme}
@@ -46,20 +44,19 @@ use Rattle.dx_schema_text.specs.Spelling as spelling
 use Rattle.dx_schema_text.specs.Texts.{IsMappingText, deepest}
 use Rattle.dx_csv.specs.Table.{AreTableRecords, IsWholeRecord, table_records}
 use Rattle.dx_tgd.specs.Counting.{canonical_cells}
-use Rattle.dx_implies.specs.Frozen.{PassesFrozen, frozen_premise}
-use Rattle.dx_implies.specs.Pruning.{IsPrunedAlways, PassesBeside, PruningPassesLimit}
 use Rattle.dx_exchange.specs.declared.mode.Mode.TheVariants.{Core, Plain}
 use Rattle.dx_exchange.specs.declared.result.Exchange.{Exchange}
 use Rattle.dx_stages.specs.Worlds.{World}
 use Rattle.clio_accept.specs.declared.mapping.Mapping.{Mapping}
 use Rattle.clio_accept.specs.Accepting.{accepting, between_of, taking}
-use Rattle.clio_accept.specs.Mapping.{AreRulesOf, IsReserved, NoneReserved, frozen_cells}
-use Rattle.clio_source.specs.Source.{IsStored, ReadState, SayFacts, SaysSourceFacts, at_start, data_bytes, fetching, file_at, flat, loading, reading, source_cells, source_stages}
+use Rattle.clio_accept.specs.Mapping.{AreRulesOf, NoneReserved}
+use Rattle.clio_source.specs.Source.{ReadState, SaysSourceFacts, at_start, data_bytes, flat, reading, source_cells, source_stages}
 use Rattle.clio_ending.specs.declared.ending.Done.TheVariants.{Exchanged}
 use Rattle.clio_steps.specs.Outcomes.{HasSolutionIn}
 use Rattle.clio_top.specs.Completing.{HasPlanFor, small_world}
-use Rattle.clio_steps.specs.Steps.{Program, target_cells, text_bytes, wanted}
+use Rattle.clio_steps.specs.Steps.{Program, target_cells, wanted}
 use Rattle.clio_top.proofs.Completing.{planned}
+use Rattle.clio_top.proofs.OneRule.{is_left, not_tested}
 
 -- ---- what is held
 
@@ -86,13 +83,13 @@ has_table =
 
 -- ---- the tokens of the text
 
-abbrev word : ℕ → Text → Lexeme
+abbrev pub word : ℕ → Text → Lexeme
 word place text = record { place = place; kind = Word; text = text }
 
-abbrev number : ℕ → Text → Lexeme
+abbrev pub number : ℕ → Text → Lexeme
 number place text = record { place = place; kind = Number; text = text }
 
-abbrev mark : ℕ → Text → Lexeme
+abbrev pub mark : ℕ → Text → Lexeme
 mark place text = record { place = place; kind = Mark; text = text }
 
 abbrev t0 : Lexeme
@@ -319,42 +316,6 @@ mapping = record { source = emps; target = persons; conditions = []; rules = rul
 rules_are : (P : Program) → AreRulesOf P.list emps persons (line ∷ []) [] (rule ∷ [])
 rules_are P = record { closed = []; closings = tt; are = refl }
 
-abbrev no_conversions : Conversions
-no_conversions = λ code texts. []
-
-few_on : (I : List Fact) (rows : Rows) → AreRows no_conversions [] I rows → ¬ (frozen_cells < canonical_cells [] rows)
-few_on I rows a h = omega (arith, h)
-
--- beside no other rule it is not tried on many cells
-no_test : (front : List Rule) (r : Rule) (back kept : List Rule) → rule ∷ [] ≡ front ++ r ∷ back
-    → PrunedAfter no_conversions (front ++ r ∷ []) back kept → ¬ (PassesBeside frozen_cells (front ++ kept) r)
-no_test [] r [] kept is behind p =
-    let q = subst (λ (k : List Rule). PassesFrozen frozen_cells (underived k) r) behind p.1 in
-    few_on (frozen_premise r) q.rows (q.are no_conversions) q.more
-no_test [] r (x ∷ back) kept is behind p = let h = ap length is in omega (arith, h)
-no_test (x ∷ front) r back kept is behind p =
-    let h = ap length is in
-    let k = length-append front (r ∷ back) in omega (arith, h, k)
-
-not_tested : ¬ (PruningPassesLimit frozen_cells (rule ∷ []))
-not_tested p = no_test p.front p.rule p.back p.kept p.is (p.behind no_conversions) p.passes
-
-abbrev one_emp : List Fact
-one_emp = record { table = 0; row = Const [] ∷ [] } ∷ []
-
--- and it stays, since it follows from none
-rule_stays : (convert : Conversions) → ¬ (CanGo convert [] rule)
-rule_stays convert g =
-    let s = g.1 one_emp [] (λ r m. elim m [ ]) (λ x. []) (record { premise = λ a m. premise a m; derived = tt }) in
-    elim (s.1 conclusion_atom (here refl)) [ ]
-  where
-    premise : (a : Atom) → a ∈ rule.premise → premise_fact (λ x. []) a ∈ one_emp
-    premise a (here e) = subst (λ (b : Atom). premise_fact (λ x. []) b ∈ one_emp) e (here refl)
-    premise a (there m) = elim m [ ]
-
-is_left : IsPrunedAlways (rule ∷ []) (rule ∷ [])
-is_left convert = ([], refl, inr (rule_stays convert, refl))
-
 taken : (P : Program) → (taking P.list P.tests).passes world (between_of said) (rule ∷ [])
 taken P =
     let b = between_of said in (
@@ -372,7 +333,7 @@ taken P =
             (
               b,
               (refl, refl),
-              (rule ∷ [], rules_are P, (rule ∷ [], (omega arith, refl), (rule ∷ [], (not_tested, refl), is_left))),
+              (rule ∷ [], rules_are P, (rule ∷ [], (omega arith, refl), (rule ∷ [], (not_tested rule, refl), is_left premise_atom conclusion_atom []))),
             ),
           ),
         ),
@@ -397,13 +358,13 @@ records_are : table_records emp_bytes ≡ (codes "name" ∷ []) ∷ (codes "ann"
 unfolding records_from next_record strip_bom
 records_are = refl
 
-ann_ascii : IsAscii (codes "ann")
+pub ann_ascii : IsAscii (codes "ann")
 ann_ascii zero = omega arith
 ann_ascii (suc zero) = omega arith
 ann_ascii (suc (suc zero)) = omega arith
 ann_ascii (suc (suc (suc i))) = omega arith
 
-bob_ascii : IsAscii (codes "bob")
+pub bob_ascii : IsAscii (codes "bob")
 bob_ascii zero = omega arith
 bob_ascii (suc zero) = omega arith
 bob_ascii (suc (suc zero)) = omega arith

@@ -1,9 +1,8 @@
 -- The worked example of a key, to its end. The two numbers of the department, which are not known, are forced equal by its key, so that
 -- an exchange writes exactly these files and this text.
-use Rattle.std.proofs.Common.{◌≡◌, ◌⊎◌, ◌≤◌, ℕ, zero, suc, List, [], ◌∷◌, ◌++◌, inl, inr, refl, sym, ◌∙◌, ap, subst, arith, Some, Bool, false, map}
+use Rattle.std.proofs.Common.{◌≡◌, ◌⊎◌, ◌≤◌, ℕ, List, [], ◌∷◌, ◌++◌, inl, inr, refl, sym, ◌∙◌, ap, subst, arith, Some, Bool, false}
 use Rattle.std.specs.Prelude.{codes}
 use Rattle.std.specs.Fmt.{digits}
-use Rattle.std.specs.Str.{IsAscii}
 use Rattle.std.specs.declared.cmp.Ordering.TheVariants.{Greater, Less}
 use Rattle.std.proofs.lemmas.Option.{same_Some}
 use Rattle.csv.specs.Machine.{next_record}
@@ -48,43 +47,25 @@ use Rattle.clio_accept.proofs.Decided.{accepting_one}
 use Rattle.clio_source.specs.Source.{source_stages}
 use Rattle.clio_source.proofs.Decided.{source_one}
 use Rattle.clio_files.specs.Files.{AreFiles, AreTableFiles, files_of, summary_of}
-use Rattle.clio_files.specs.Nested.{AreRootFiles}
 use Rattle.clio_files.specs.Sheets.{AreTargetNulls, PrintedFile, file_of, fold_sheet, nulls_sheet}
 use Rattle.clio_files.specs.Texts.{texts_told}
 use Rattle.clio_files.proofs.OneList.{table_files_are_one}
 use Rattle.clio_steps.specs.Outcomes.{HasSolutionIn, Writing, wrote_all}
 use Rattle.clio_steps.specs.Steps.{Program, exchange_input, target_cells, wanted}
-use Rattle.clio_top.specs.declared.command.Command.{Command}
-use Rattle.clio_top.specs.declared.command.Command.TheVariants.{Exchanging}
 use Rattle.clio_top.specs.KeyedWorlds.{KeyedIsPlanned, KeyedIsWritten, keyed_files, keyed_summary, keyed_text, keyed_world}
 use Rattle.clio_top.specs.Outcomes.{IsDoneIn}
 use Rattle.clio_top.specs.Promises.{IsDone}
 use Rattle.clio_top.specs.Words.{Word}
 use Rattle.clio_top.proofs.Completing.{planned}
-use Rattle.clio_top.proofs.TwoEmps.{TwoEmps, emps, is_source, matches_are, rows, texts_are, tuples, whole}
+use Rattle.clio_top.proofs.WrittenExample.{none_nested, plain_alone}
+use Rattle.clio_top.proofs.TwoEmps.{it_ascii, TwoEmps, emps, is_source, matches_are, rows, texts_are, tuples, whole}
+use Rattle.clio_top.proofs.Examples.{ann_ascii, bob_ascii}
 use Rattle.clio_top.proofs.KeyedRules.{accepted, conclusion, dept_atom, depts, emp_bytes, has_table, has_text, link, mapping, person_atom, rule, schema}
 
 abbrev exchange : List Word
 exchange = codes "exchange" ∷ []
 
 -- ---- the rows
-
-ann : IsAscii (codes "ann")
-ann zero = omega arith
-ann (suc zero) = omega arith
-ann (suc (suc zero)) = omega arith
-ann (suc (suc (suc i))) = omega arith
-
-bob : IsAscii (codes "bob")
-bob zero = omega arith
-bob (suc zero) = omega arith
-bob (suc (suc zero)) = omega arith
-bob (suc (suc (suc i))) = omega arith
-
-it : IsAscii (codes "it")
-it zero = omega arith
-it (suc zero) = omega arith
-it (suc (suc i)) = omega arith
 
 records_are : table_records emp_bytes
     ≡ (codes "name" ∷ codes "dept" ∷ []) ∷ (codes "ann" ∷ codes "it" ∷ []) ∷ (codes "bob" ∷ codes "it" ∷ []) ∷ []
@@ -101,8 +82,8 @@ two = record {
   second = codes "bob";
   second_dept = codes "it";
   records = records_are;
-  first_whole = whole (codes "ann") (codes "it") ann it;
-  second_whole = whole (codes "bob") (codes "it") bob it;
+  first_whole = whole (codes "ann") (codes "it") ann_ascii it_ascii;
+  second_whole = whole (codes "bob") (codes "it") bob_ascii it_ascii;
   rows_less = refl;
   tuples_less = refl;
 }
@@ -457,10 +438,6 @@ nulls_of T ns same a =
     stands n (here e) = here (ap Null e)
     stands n (there m) = elim m [ ]
 
-none_nested : (T : List TableRows) (fs : List PrintedFile) → AreRootFiles depts T [] fs → fs ≡ []
-none_nested T [] d = refl
-none_nested T (f ∷ fs) d = absurd d
-
 module _ (P : Program) (Wrote : Writing) where
   -- the files of these parts, which stand in this order
   abbrev listed : Rows → List NullPair → List NullId → List PrintedFile → List PrintedFile → List PrintedFile
@@ -480,7 +457,7 @@ module _ (P : Program) (Wrote : Writing) where
   list_of e x files a =
       let tables = table_files_are_one [] 0 (tables_of depts) e.target a.tables table_files a.tables_are (are_table_files e.target (rows_are P e x 0 depts_ascend) (rows_are P e x 1 persons_ascend)) in
       let ns = nulls_of (facts e.target) a.nulls (same_facts P e x) a.nulls_are in
-      let documents = none_nested e.target a.documents a.documents_are in
+      let documents = none_nested depts e.target a.documents a.documents_are in
       a.is ∙ ap (λ (r : Rows). listed r (pairs_of e.fold) a.nulls a.tables a.documents) (matches_found P e x)
       ∙ ap (λ (ps : List NullPair). listed matches ps a.nulls a.tables a.documents) (fold_is P e x)
       ∙ ap (λ (ks : List NullId). listed matches joined ks a.tables a.documents) ns
@@ -518,20 +495,11 @@ done_in P e Wrote d = of d.exchange.mapping (mapping_of P d.exchange.text d.exch
         let files = subst (λ (N : Mapping). AreFiles N.source N.target P.list Plain false N.rules e d.files) is a in
         written_by P Wrote e (subst (λ (I : List TableRows). IsExchange P.apply (exchange_input Plain (mapping, I)) e) (source_is P d.exchange.rows same) exchanged) d.files files d.written
 
-mode_in : Command → Mode
-mode_in (Exchanging mode nested) = mode
-mode_in _ = Plain
-
-nested_in : Command → Bool
-nested_in (Exchanging mode nested) = nested
-nested_in _ = false
-
 written : (P : Program) (e : Exchange) (Wrote : Writing) → IsDone P keyed_world exchange e Wrote → Wrote keyed_files keyed_summary
-unfolding mode_in nested_in
 written P e Wrote (mode, nested, w, d) =
-    let c : Exchanging Plain false ≡ Exchanging mode nested = same_Some (Exchanging Plain false) (Exchanging mode nested) w in
-    let plain = subst (λ (m : Mode). IsDoneIn P m nested keyed_world e Wrote) (sym (ap mode_in c)) d in
-    done_in P e Wrote (subst (λ (b : Bool). IsDoneIn P Plain b keyed_world e Wrote) (sym (ap nested_in c)) plain)
+    let plain = plain_alone mode nested w in
+    let of_mode = subst (λ (m : Mode). IsDoneIn P m nested keyed_world e Wrote) (sym plain.0) d in
+    done_in P e Wrote (subst (λ (b : Bool). IsDoneIn P Plain b keyed_world e Wrote) (sym plain.1) of_mode)
 
 pub keyed_is_written : KeyedIsWritten
 keyed_is_written P e before after d = written P e (wrote_all before after) d

@@ -16,7 +16,7 @@ use Rattle.dx_model.specs.declared.tables.Link.{Link}
 use Rattle.dx_model.specs.declared.values.Value.{Value}
 use Rattle.dx_model.specs.declared.values.Value.TheVariants.{Const}
 use Rattle.dx_model.specs.Rules.{AreRows, Satisfies, fact_of_atom, exported, premise_fact, IsRows}
-use Rattle.dx_model.specs.Tables.{Determination, Table, table_of}
+use Rattle.dx_model.specs.Tables.{Table, table_of}
 use Rattle.dx_model.specs.Values.{Conversions, Rows, Tuple, tuple_cmp}
 use Rattle.dx_model.proofs.Orders.{tuple_total}
 use Rattle.dx_schema.specs.Forest.{Forest, Tree, none, set}
@@ -38,7 +38,9 @@ use Rattle.clio_accept.specs.Accepting.{accepting, between_of, taking}
 use Rattle.clio_accept.specs.Mapping.{AreRulesOf, NoneReserved, frozen_cells}
 use Rattle.clio_steps.specs.Steps.{Program}
 use Rattle.clio_top.specs.KeyedWorlds.{keyed_text, keyed_world}
-use Rattle.clio_top.proofs.TwoEmps.{emp_side, emps, emps_are, mark, of_emps, t0, t1, t10, t11, t12, t13, t14, t15, t2, t3, t4, t5, t6, t7, t8, t9, word, premise_atom}
+use Rattle.clio_top.proofs.Examples.{mark, word}
+use Rattle.clio_top.proofs.OneRule.{few_on, no_conversions}
+use Rattle.clio_top.proofs.TwoEmps.{emp_side, emps, emps_are, of_emps, t0, t1, t10, t11, t12, t13, t14, t15, t2, t3, t4, t5, t6, t7, t8, t9, premise_atom}
 use Rattle.std.proofs.lemmas.List.{length-append}
 use Rattle.std.specs.Ordering.{ordering_reverse}
 use Rattle.dx_model.specs.Following.{CanGo, PrunedAfter, SatisfyAll, frozen_text, underived}
@@ -431,9 +433,6 @@ pruned convert = (rule ∷ [], ([], refl, inr (rule_stays convert, refl)), inl (
 
 -- ---- no rule is tried on many cells
 
-abbrev no_conversions : Conversions
-no_conversions = λ code texts. []
-
 -- the texts of the variables in a frozen premise
 abbrev frozen_at : ℕ → Text
 frozen_at = frozen_text (marks 1)
@@ -473,14 +472,11 @@ few_both (ts ∷ []) a more =
     let few = one_row conclusion (dept_atom ∷ []) (λ texts x y. (λ i. sym x i ∷ sym y i ∷ [])) ts a.0 in omega (arith, more, few)
 few_both (ts ∷ us ∷ rows) a more = absurd a.1
 
-few_none : (I : List Fact) (rows : Rows) → AreRows no_conversions [] I rows → ¬ (frozen_cells < canonical_cells [] rows)
-few_none I rows a h = omega (arith, h)
-
 -- the first rule is tried beside the second, or beside none
 first_test : (kept : List Rule) → PrunedAfter no_conversions (dept_rule ∷ []) (rule ∷ []) kept → ¬ (PassesFrozen frozen_cells (underived kept) dept_rule)
 first_test kept (others, none_left, inl (gone, is)) p =
     let q = subst (λ (k : List Rule). PassesFrozen frozen_cells (underived k) dept_rule) (is ∙ none_left) p in
-    few_none (frozen_premise dept_rule) q.rows (q.are no_conversions) q.more
+    few_on (frozen_premise dept_rule) q.rows (q.are no_conversions) q.more
 first_test kept (others, none_left, inr (stays, is)) p =
     let q = subst (λ (k : List Rule). PassesFrozen frozen_cells (underived k) dept_rule) (is ∙ ap (λ (k : List Rule). rule ∷ k) none_left) p in
     few_both q.rows (q.are no_conversions) q.more

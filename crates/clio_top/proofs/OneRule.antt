@@ -1,8 +1,7 @@
 -- A rule alone, with one atom on the left and no derived variables: it is not tried on many cells, and it stays.
-use Rattle.std.proofs.Common.{◌≡◌, ◌<◌, ℕ, List, [], ◌∷◌, ◌++◌, length, inr, refl, sym, subst, ap, arith}
+use Rattle.std.proofs.Common.{◌≡◌, ◌<◌, List, [], ◌∷◌, ◌++◌, length, inr, refl, subst, ap, arith}
 use Rattle.std.proofs.lemmas.List.{length-append}
 use Rattle.dx_ports.specs.Members.{◌∈◌, here, there}
-use Rattle.dx_ports.specs.Texts.{Text}
 use Rattle.dx_model.specs.declared.facts.Fact.{Fact}
 use Rattle.dx_model.specs.declared.rules.Atom.{Atom}
 use Rattle.dx_model.specs.declared.rules.Rule.{Rule}
@@ -14,10 +13,11 @@ use Rattle.dx_implies.specs.Frozen.{PassesFrozen, frozen_premise}
 use Rattle.dx_implies.specs.Pruning.{IsPrunedAlways, PassesBeside, PruningPassesLimit}
 use Rattle.clio_accept.specs.Mapping.{frozen_cells}
 
-abbrev no_conversions : Conversions
+abbrev pub no_conversions : Conversions
 no_conversions = λ code texts. []
 
-few_on : (I : List Fact) (rows : Rows) → AreRows no_conversions [] I rows → ¬ (frozen_cells < canonical_cells [] rows)
+-- no rules have no cells
+pub few_on : (I : List Fact) (rows : Rows) → AreRows no_conversions [] I rows → ¬ (frozen_cells < canonical_cells [] rows)
 few_on I rows a h = omega (arith, h)
 
 -- beside no other rule it is not tried on many cells

@@ -1,9 +1,7 @@
 -- There is one reason to refuse a run, or a plan, and never both.
-use Rattle.std.proofs.Common.{Err}
 use Rattle.dx_stages.specs.Stages.{by, over}
 use Rattle.dx_stages.specs.Laws.{IsDecided}
 use Rattle.dx_stages.proofs.Decided.{Any, next_decided, by_decided, over_decided, computing_one, computing_decided}
-use Rattle.clio_ending.specs.declared.ending.Refusal.TheVariants as refusals
 use Rattle.clio_ending.specs.Ending.{AreAlike}
 use Rattle.clio_ending.proofs.Alike.{alike}
 use Rattle.clio_top.specs.declared.command.Command.{Command}

@@ -12,7 +12,6 @@ use Rattle.dx_model.specs.declared.facts.Fact.{Fact}
 use Rattle.dx_model.specs.declared.rules.Atom.{Atom}
 use Rattle.dx_model.specs.declared.rules.Cell.TheVariants.{Var}
 use Rattle.dx_model.specs.declared.rules.Rule.{Rule}
-use Rattle.dx_model.specs.declared.tables.Link.{Link}
 use Rattle.dx_model.specs.declared.values.Value.{Value}
 use Rattle.dx_model.specs.declared.values.Value.TheVariants.{Const}
 use Rattle.dx_model.specs.Rules.{AreRows, IsMatch, IsRows, exported, premise_fact}
@@ -24,7 +23,6 @@ use Rattle.dx_schema.specs.Forest.{Forest, Tree, none, set}
 use Rattle.dx_schema.specs.Links.{IsFaultless, every_link}
 use Rattle.dx_schema.specs.Tables.{model_tables}
 use Rattle.dx_grammar.specs.Readers.{no_more, one_more}
-use Rattle.dx_tokens.specs.declared.tokenizer.TokenKind.TheVariants.{Mark, Number, Word}
 use Rattle.dx_tokens.specs.declared.scanner.Lexeme.{Lexeme}
 use Rattle.dx_schema_text.specs.Reading.{tree_of_clauses}
 use Rattle.dx_schema_text.specs.Spelling.{SpellsHead, SpellsSet, SpellsSide}
@@ -34,18 +32,9 @@ use Rattle.dx_csv.specs.Table.{AreTableRecords, IsWholeRecord, table_records}
 use Rattle.dx_stages.specs.Worlds.{World}
 use Rattle.clio_source.specs.Source.{ReadState, SaysSourceFacts, at_start, data_bytes, flat, reading, source_cells, source_stages}
 use Rattle.clio_steps.specs.Steps.{Program}
-use Rattle.clio_top.proofs.Examples.{no_links}
+use Rattle.clio_top.proofs.Examples.{mark, no_links, number, word}
 
 -- ---- the text up to the target's sets
-
-abbrev pub word : ℕ → Text → Lexeme
-word place text = record { place = place; kind = Word; text = text }
-
-abbrev pub number : ℕ → Text → Lexeme
-number place text = record { place = place; kind = Number; text = text }
-
-abbrev pub mark : ℕ → Text → Lexeme
-mark place text = record { place = place; kind = Mark; text = text }
 
 abbrev pub t0 : Lexeme
 t0 = word 0 (codes "mapping")
@@ -146,6 +135,16 @@ pub record TwoEmps (world : World) : Type 0 where
 pub whole : (name dept : Text) → IsAscii name → IsAscii dept → IsWholeRecord columns (name ∷ dept ∷ [])
 unfolding AllText
 whole name dept a b = record { width = refl; text = (IsUtf8-from_ascii name a, (IsUtf8-from_ascii dept b, tt)) }
+
+pub hr_ascii : IsAscii (codes "hr")
+hr_ascii zero = omega arith
+hr_ascii (suc zero) = omega arith
+hr_ascii (suc (suc i)) = omega arith
+
+pub it_ascii : IsAscii (codes "it")
+it_ascii zero = omega arith
+it_ascii (suc zero) = omega arith
+it_ascii (suc (suc i)) = omega arith
 
 module _ (world : World) (s : TwoEmps world) where
   abbrev pub emp_rows : List (List Value)

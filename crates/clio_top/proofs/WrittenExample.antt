@@ -1,6 +1,6 @@
 -- The first worked example, to its end: what an exchange of it writes, in plain mode, is exactly these five files and this text; in core
 -- mode it has the same target. No clash is told of it, and no other command is done by its words.
-use Rattle.std.proofs.Common.{◌≡◌, ◌⊎◌, ℕ, suc, zero, List, [], ◌∷◌, ◌++◌, get_or, map, inl, inr, refl, sym, ◌∙◌, ap, subst, arith, Some, Bool, true, false}
+use Rattle.std.proofs.Common.{◌≡◌, ◌⊎◌, ℕ, suc, zero, List, [], ◌∷◌, ◌++◌, get_or, map, inl, inr, refl, sym, ◌∙◌, ap, subst, arith, Some, Bool, false}
 use Rattle.std.specs.Prelude.{codes, length}
 use Rattle.std.specs.Fmt.{digits}
 use Rattle.std.proofs.lemmas.Option.{same_Some}
@@ -31,6 +31,7 @@ use Rattle.dx_model.proofs.RowsExist.{rows_of_all}
 use Rattle.dx_instance.specs.NullMaps.{pairs_of}
 use Rattle.dx_instance.specs.Stored.{TableRows, facts, rows_of, widths}
 use Rattle.dx_instance.proofs.LawFacts.{sorted_facts}
+use Rattle.dx_schema.specs.Forest.{Forest}
 use Rattle.dx_schema.specs.Tables.{model_tables, tables_of}
 use Rattle.dx_keys.specs.declared.answers.Clash.{Clash}
 use Rattle.dx_exchange.specs.declared.mode.Mode.{Mode}
@@ -256,9 +257,9 @@ nulls_of ns a = one_ascending null_cmp null_total ns nulls a.ascend nulls_ascend
     stands n (there (here e)) = there (there (there (here (ap Null e))))
     stands n (there (there m)) = elim m [ ]
 
-none_nested : (T : List TableRows) (fs : List PrintedFile) → AreRootFiles persons T [] fs → fs ≡ []
-none_nested T [] d = refl
-none_nested T (f ∷ fs) d = absurd d
+pub none_nested : (sets : Forest) (T : List TableRows) (fs : List PrintedFile) → AreRootFiles sets T [] fs → fs ≡ []
+none_nested sets T [] d = refl
+none_nested sets T (f ∷ fs) d = absurd d
 
 module _ (P : Program) (Wrote : Writing) where
   -- the files of these parts, which stand in this order
@@ -279,7 +280,7 @@ module _ (P : Program) (Wrote : Writing) where
   list_of e x files a =
       let tables = table_files_are_one [] 0 (tables_of persons) target a.tables (person_file ∷ []) (subst (λ (T : List TableRows). AreTableFiles [] 0 (tables_of persons) T a.tables) (target_is P e x) a.tables_are) is_person_file in
       let ns = nulls_of a.nulls (subst (λ (A : List Fact). AreTargetNulls A a.nulls) (facts_are P e x) a.nulls_are) in
-      let documents = none_nested e.target a.documents a.documents_are in
+      let documents = none_nested persons e.target a.documents a.documents_are in
       a.is ∙ ap (λ (r : Rows). listed r (pairs_of e.fold) a.nulls a.tables a.documents) (matches_are P e x)
       ∙ ap (λ (ps : List NullPair). listed (tuples ∷ []) ps a.nulls a.tables a.documents) (fold_is_empty P e x)
       ∙ ap (λ (ks : List NullId). listed (tuples ∷ []) [] ks a.tables a.documents) ns
@@ -305,14 +306,20 @@ mapping_of P held M is a =
 rows_are : (P : Program) (I : List TableRows) → (source_stages P.passes).passes world (wanted mapping) I → I ≡ rows
 rows_are P I s = source_one P.passes world (wanted mapping) I rows s (is_source P)
 
-pub mode_in : Command → Mode
+mode_in : Command → Mode
 mode_in (Exchanging mode nested) = mode
 mode_in (Showing mode) = mode
 mode_in _ = Plain
 
-pub nested_in : Command → Bool
+nested_in : Command → Bool
 nested_in (Exchanging mode nested) = nested
 nested_in _ = false
+
+-- the one word asks for plain mode, and for no documents
+pub plain_alone : (mode : Mode) (nested : Bool) → says exchange ≡ Some (Exchanging mode nested) → (Plain ≡ mode) × (false ≡ nested)
+unfolding mode_in nested_in
+plain_alone mode nested w =
+    let c : Exchanging Plain false ≡ Exchanging mode nested = same_Some (Exchanging Plain false) (Exchanging mode nested) w in (ap mode_in c, ap nested_in c)
 
 done_in : (P : Program) (e : Exchange) (Wrote : Writing) → IsDoneIn P Plain false world e Wrote → Wrote small_files small_summary
 done_in P e Wrote d = of d.exchange.mapping (mapping_of P d.exchange.text d.exchange.mapping d.exchange.held d.exchange.accepted) d.exchange.source d.exchange.exchange d.are
@@ -327,11 +334,10 @@ done_in P e Wrote d = of d.exchange.mapping (mapping_of P d.exchange.text d.exch
         written_by P Wrote e (subst (λ (I : List TableRows). IsExchange P.apply (exchange_input Plain (mapping, I)) e) (rows_are P d.exchange.rows same) exchanged) d.files files d.written
 
 pub written : (P : Program) (e : Exchange) (Wrote : Writing) → IsDone P world exchange e Wrote → Wrote small_files small_summary
-unfolding mode_in nested_in
 written P e Wrote (mode, nested, w, d) =
-    let c : Exchanging Plain false ≡ Exchanging mode nested = same_Some (Exchanging Plain false) (Exchanging mode nested) w in
-    let plain = subst (λ (m : Mode). IsDoneIn P m nested world e Wrote) (sym (ap mode_in c)) d in
-    done_in P e Wrote (subst (λ (b : Bool). IsDoneIn P Plain b world e Wrote) (sym (ap nested_in c)) plain)
+    let plain = plain_alone mode nested w in
+    let of_mode = subst (λ (m : Mode). IsDoneIn P m nested world e Wrote) (sym plain.0) d in
+    done_in P e Wrote (subst (λ (b : Bool). IsDoneIn P Plain b world e Wrote) (sym plain.1) of_mode)
 
 pub small_is_written : SmallIsWritten
 small_is_written P e before after d = written P e (wrote_all before after) d

@@ -10,7 +10,6 @@ use Rattle.dx_model.specs.declared.values.Value.TheVariants.{Const}
 use Rattle.dx_stages.specs.Ending.{WroteAll}
 use Rattle.dx_stages.specs.Worlds.{World}
 use Rattle.dx_keys.specs.declared.answers.Clash.{Clash}
-use Rattle.dx_exchange.specs.declared.mode.Mode.{Mode}
 use Rattle.dx_exchange.specs.declared.result.Exchange.{Exchange}
 use Rattle.clio_ending.specs.declared.ending.Done.TheVariants.{Exchanged}
 use Rattle.clio_ending.specs.declared.ending.Refusal.TheVariants as refusals

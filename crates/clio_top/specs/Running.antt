@@ -1,5 +1,5 @@
 -- The stages of an exchange and of showing, and what is written of them.
-use Rattle.std.specs.Prelude.{◌≡◌, ℕ, List, [], Bool}
+use Rattle.std.specs.Prelude.{◌≡◌, List, [], Bool}
 use Rattle.dx_stages.specs.Ending.{PlanContent}
 use Rattle.dx_stages.specs.Stages.{Stage, become, into}
 use Rattle.dx_funcs.specs.declared.conversion.Conversion.{Conversion}
