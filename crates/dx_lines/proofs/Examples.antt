@@ -185,6 +185,19 @@ way_before_literal :
     rule (atom 0 (Var 0 ∷ []) ∷ []) (atom 0 (Var 0 ∷ []) ∷ []) ∷ []
 way_before_literal = refl
 
+-- a text of one byte for column d
+abbrev from_text : ℕ → ℕ → Line
+from_text b d = record { target = at 0 d; source = Literal (b ∷ []) }
+
+-- if the line to a column has no value here, the text of the first literal line counts, though that stands behind the other line
+literal_behind_a_line :
+    kept_rules (from_column 0 0 0 0 ∷ from_text 97 0 ∷ from_text 98 0 ∷ from_column 1 0 0 1 ∷ [])
+    (table 1 [] ∷ table 1 [] ∷ []) (table 2 [] ∷ []) ≡
+    rule (atom 0 (Var 0 ∷ []) ∷ []) (atom 0 (Var 0 ∷ Ex 0 ∷ []) ∷ [])
+    ∷ rule (atom 1 (Var 0 ∷ []) ∷ []) (atom 0 (Lit (97 ∷ []) ∷ Var 0 ∷ []) ∷ [])
+    ∷ []
+literal_behind_a_line = refl
+
 literal_alone : candidates_of (record { target = at 0 0; source = Literal (97 ∷ []) } ∷ []) (table 1 [] ∷ []) (table 1 [] ∷ []) ≡ []
 literal_alone = refl
 
@@ -351,6 +364,19 @@ open_parts : map (λ a. map (λ (o : Occurrence). o.table) (part_occurrences (va
     (0 ∷ 1 ∷ []) ∷ (0 ∷ []) ∷ (1 ∷ []) ∷ []
 open_parts = refl
 
+-- table 0 with an optional link to table 1, and this with one to table 2: the parts are the whole, the whole without 2, without 1
+-- (and so without 2 as well), without both, the subtree at 1, that without 2, and the subtree at 2
+abbrev chained : List Table
+chained = open_table 1 (link 0 1 0 ∷ []) ∷ open_table 1 (link 0 2 0 ∷ []) ∷ table 1 [] ∷ []
+
+abbrev chained_occurrences : List Occurrence
+chained_occurrences = (variant_of chained 0 2).occurrences
+
+chained_parts :
+    map (λ a. map (λ (o : Occurrence). o.table) (part_occurrences chained_occurrences a)) (parts chained chained_occurrences) ≡
+    (0 ∷ 1 ∷ 2 ∷ []) ∷ (0 ∷ 1 ∷ []) ∷ (0 ∷ []) ∷ (0 ∷ []) ∷ (1 ∷ 2 ∷ []) ∷ (1 ∷ []) ∷ (2 ∷ []) ∷ []
+chained_parts = refl
+
 -- in the target: person(name, club) with an optional link to club(cname): a person alone, and with the club
 open_targets : kept_rules (from_column 0 0 0 0 ∷ from_column 0 1 1 0 ∷ []) (table 2 [] ∷ []) (open_table 2 (link 1 1 0 ∷ []) ∷ table 1 [] ∷ []) ≡
     rule (atom 0 (Var 0 ∷ Var 1 ∷ []) ∷ []) (atom 0 (Var 0 ∷ Ex 0 ∷ []) ∷ [])
@@ -378,6 +404,35 @@ seven_open = refl
 eight_open : passed_limit [] (star 8) one ≡ Some (record { what = counts.Variants; number = 256 })
 eight_open = refl
 
+-- so many links to table t
+abbrev links_to : ℕ → ℕ → List Link
+links_to t zero = []
+links_to t (suc n) = link 0 t 0 ∷ links_to t n
+
+-- tables of 128, 64, 32, 16, 8, 4, 2, 1 and 1 variants are accepted: 256 together
+all_variants_of_a_side :
+    passed_limit [] (
+    open_table 1 (links_to 7 7) ∷ open_table 1 (links_to 7 6) ∷ open_table 1 (links_to 7 5) ∷ open_table 1 (links_to 7 4) ∷ open_table 1 (links_to 7 3)
+    ∷ open_table 1 (links_to 7 2) ∷ open_table 1 (links_to 7 1) ∷ table 1 [] ∷ table 1 [] ∷ []
+    ) one ≡ None
+all_variants_of_a_side = refl
+
+-- table by table: occurrences of the first are told before the variants of all three
+first_table_first :
+    passed_limit [] (table 1 (links_to 1 64) ∷ table 1 [] ∷ open_table 1 (links_to 1 8) ∷ []) one
+    ≡ Some (record { what = counts.Occurrences; number = 64 })
+first_table_first = refl
+
+-- of one table the variants up to it are told before its occurrences
+variants_first :
+    passed_limit [] (open_table 1 (links_to 2 8) ∷ table 1 (links_to 2 64) ∷ table 1 [] ∷ []) one
+    ≡ Some (record { what = counts.Variants; number = 256 })
+variants_first = refl
+
+-- the source's limits are told before the target's
+source_first : passed_limit [] (fan 1 64) (star 8) ≡ Some (record { what = counts.Occurrences; number = 64 })
+source_first = refl
+
 -- ---- lines that fit, and that can be read
 
 -- a line from the last column of a table to the last column of a table fits
@@ -392,6 +447,10 @@ no_column_behind h = let c = h.column in omega (arith, c)
 
 no_table_behind : ¬ IsSchemaColumn (table 2 [] ∷ []) (at 1 0)
 no_table_behind h = let c = h.table in omega (arith, c)
+
+-- a line from a column that isn't there does not fit
+no_source_behind : ¬ LineFits (table 2 [] ∷ []) (table 3 [] ∷ []) (from_column 0 2 0 2)
+no_source_behind h = no_column_behind (h.from (at 0 2) (here refl))
 
 abbrev seen_one : List Occurrence
 seen_one = record { table = 0; variables = 0 ∷ 1 ∷ []; parent = None; link = 0 } ∷ []
