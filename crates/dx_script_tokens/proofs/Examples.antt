@@ -40,9 +40,20 @@ words : scanned (codes "m0 k12 m0x TEXT text") ≡ whole (numbered 0 kinds.Match
 unfolding scanned
 words = refl
 
+-- a letter alone is a word, and so are letters that no number follows
+letters_alone : scanned (codes "c as k1m") ≡ whole (plain 0 kinds.Word ∷ plain 2 kinds.Word ∷ plain 5 kinds.Word ∷ [])
+unfolding scanned
+letters_alone = refl
+
 marks : scanned (codes "m.c1=n.c0;") ≡ whole (plain 0 kinds.Own ∷ plain 1 kinds.Dot ∷ numbered 2 kinds.Column 1 ∷ plain 4 kinds.Equal ∷ plain 5 kinds.Other ∷ plain 6 kinds.Dot ∷ numbered 7 kinds.Column 0 ∷ plain 9 kinds.Semicolon ∷ [])
 unfolding scanned
 marks = refl
+
+every_mark : scanned (codes "(),;.=*")
+    ≡ whole (plain 0 kinds.Open ∷ plain 1 kinds.Close ∷ plain 2 kinds.Comma ∷ plain 3 kinds.Semicolon ∷ plain 4 kinds.Dot
+    ∷ plain 5 kinds.Equal ∷ plain 6 kinds.Star ∷ [])
+unfolding scanned
+every_mark = refl
 
 -- a zero stands alone, also in a word
 zeros : scanned (codes "007 a01") ≡ whole (numbered 0 kinds.Number 0 ∷ numbered 1 kinds.Number 0 ∷ numbered 2 kinds.Number 7 ∷ plain 4 kinds.Word ∷ [])
@@ -60,6 +71,12 @@ greatest_and_more = refl
 names : scanned (codes "\"#id\" 'it''s' '' '\n'") ≡ whole (said 0 kinds.Name (codes "#id") ∷ said 6 kinds.Text (codes "it's") ∷ said 14 kinds.Text [] ∷ said 17 kinds.Text (codes "\n") ∷ [])
 unfolding scanned
 names = refl
+
+-- a name may begin with a digit, and a text has characters of more than one byte: "1a" 'é'
+digit_first : scanned (34 ∷ 49 ∷ 97 ∷ 34 ∷ 32 ∷ 39 ∷ 0xC3 ∷ 0xA9 ∷ 39 ∷ [])
+    ≡ whole (said 0 kinds.Name (codes "1a") ∷ said 5 kinds.Text (0xC3 ∷ 0xA9 ∷ []) ∷ [])
+unfolding scanned
+digit_first = refl
 
 -- ---- faults
 

@@ -8,9 +8,10 @@ use Rattle.dx_tokens.proofs.ScanLeads.{token_slice, further}
 use Rattle.dx_script_tokens.specs.declared.pieces.Shape.{Shape}
 use Rattle.dx_script_tokens.specs.declared.pieces.Piece.TheVariants as pieces
 use Rattle.dx_script_tokens.specs.declared.scanner.ScriptToken.{ScriptToken}
+use Rattle.dx_script_tokens.specs.declared.scanner.ScriptScan.{ScriptScan}
 use Rattle.dx_script_tokens.specs.declared.scanner.ScriptStop.{ScriptStop}
 use Rattle.dx_script_tokens.specs.Scan.{script_scan_from, script_stopped, token_of, with_token, with_tokens}
-use Rattle.dx_script_tokens.specs.Lexing.{IsScriptTokenText, Span, LexesScript, nothing, blank, token, BeginsScriptFault, IsScriptTokensOrFault, token_said, script_begun_of, ScriptTokensAreScanned, ScriptFaultIsScanned}
+use Rattle.dx_script_tokens.specs.Lexing.{IsScriptTokenText, Span, LexesScript, nothing, blank, token, BeginsScriptFault, IsScriptTokensOrFault, token_said, script_begun_of, ScriptTokensAreScanned, ScriptFaultIsScanned, FirstScriptFaultIsStop}
 use Rattle.dx_script_tokens.proofs.Standing.{blank_past, token_past}
 use Rattle.dx_script_tokens.proofs.Meanings as means
 use Rattle.dx_script_tokens.proofs.Meanings.{StopsBehind, PieceMeans, piece_means, FaultyPiece, faulty_piece, none_left, token_first, token_piece, longest, longest_stops, stops_ends}
@@ -82,6 +83,17 @@ faulty_is_scanned text tokens (b ∷ rest) place offset kind lexes adds_up fault
     l.leads ∙ ap (λ (n : ℕ). with_tokens (map (token_said text) tokens) (script_scan_from 0 n (b ∷ rest))) here
     ∙ ap (with_tokens (map (token_said text) tokens)) (fault_scanned place b rest offset kind (faulty_piece b rest offset kind faulty))
     ∙ ap (λ (xs : List ScriptToken). record { tokens = xs; stop = Some stop }) (append-nil (map (token_said text) tokens))
+
+-- the first fault is the one at which the scan stops
+pub first_is_stop : (text : List ℕ) → FirstScriptFaultIsStop text
+first_is_stop text place kind h =
+    let l = scan_leads text [] 0 text h.tokens h.behind refl refl h.lexes in
+    let adds = l.adds_up in
+    let ends = h.at_place in
+    let e = faulty_is_scanned text h.tokens h.behind l.there h.offset kind h.lexes (omega (arith, adds)) h.faulty in
+    let begun = script_begun_of l.there h.behind in
+    let stop : ScriptStop = record { place = l.there + h.offset; kind = kind; begun = begun } in
+    (stop, ap (λ (s : ScriptScan). s.stop) e, omega (arith, adds, ends), refl)
 
 -- ---- each text has tokens, or a first fault
 

@@ -10,6 +10,7 @@ use Rattle.dx_tokens.specs.Lexing.{IsWord}
 use Rattle.dx_script_tokens.specs.declared.pieces.Shape.{Shape}
 use Rattle.dx_script_tokens.specs.declared.pieces.Shape.TheVariants.{Word, Number, Name, Text, Mark}
 use Rattle.dx_script_tokens.specs.declared.scanner.ScriptToken.{ScriptToken}
+use Rattle.dx_script_tokens.specs.declared.scanner.ScriptStop.{ScriptStop}
 use Rattle.dx_script_tokens.specs.Numbers.{greatest_number}
 use Rattle.dx_script_tokens.specs.Kinds.{is_script_mark}
 use Rattle.dx_script_tokens.specs.Quoted.{doubled, single_quoted}
@@ -150,3 +151,9 @@ ScriptFaultIsScanned text =
       tokens = map (token_said text) tokens;
       stop = Some (record { place = place + offset; kind = kind; begun = script_begun_of place behind });
     }
+
+-- the scan of a text with a first fault stops there
+abbrev pub FirstScriptFaultIsStop : List ℕ → Type 0
+FirstScriptFaultIsStop text =
+    (place : ℕ) (kind : TextKind) → IsFirstScriptFault text place kind
+    → (s : ScriptStop) × ((script_scan_of text).stop ≡ Some s) × (s.place ≡ place) × (s.kind ≡ kind)
