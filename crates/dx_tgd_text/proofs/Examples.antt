@@ -1,5 +1,6 @@
 -- A rule from employees to persons: read by numbers, and refused at the first word that is at fault.
-use Rattle.std.proofs.Common.{◌≡◌, ℕ, List, [], ◌∷◌, Option, Some, None, codes, refl}
+use Rattle.std.proofs.Common.{◌≡◌, ℕ, List, [], ◌∷◌, Option, Some, None, codes, refl, ap, ◌∙◌, arith}
+use Rattle.dx_ports.specs.Members.{◌∈◌, here, there}
 use Rattle.dx_model.specs.declared.rules.Cell.TheVariants.{Var, Ex, Lit}
 use Rattle.dx_schema.specs.Forest.{Forest, none, set, bare_set}
 use Rattle.dx_ports.specs.Texts.{Text}
@@ -12,7 +13,8 @@ use Rattle.dx_schema_text.specs.declared.texts.AtomText.{AtomText}
 use Rattle.dx_schema_text.specs.declared.texts.DerivedText.{DerivedText}
 use Rattle.dx_schema_text.specs.declared.texts.RuleText.{RuleText}
 use Rattle.dx_funcs.specs.declared.conversion.Conversion.{Conversion}
-use Rattle.dx_tgd_text.specs.Reading.{rule_fault, rule_of_text, rules_fault}
+use Rattle.dx_tgd_text.specs.Laws.{AreOffered, IsWholeRule}
+use Rattle.dx_tgd_text.specs.Reading.{rule_fault, rule_of_text, rules_fault, rules_of_texts, size_of}
 
 -- employees with a name and a place, persons with a name and a telephone
 abbrev employees : Forest
@@ -23,7 +25,7 @@ persons = set (bare_set (codes "person") (codes "name" ∷ codes "phone" ∷ [])
 
 -- one conversion, of two texts
 abbrev offer : List Conversion
-offer = record { name = codes "pair"; code = 2; arity = 2 } ∷ []
+offer = record { name = codes "pair"; code = 7; arity = 2 } ∷ []
 
 abbrev atom : Text → ℕ → List CellText → AtomText
 atom name place cells = record { set = name; place = place; cells = cells }
@@ -54,7 +56,7 @@ numbers :
     rule_of_text employees persons offer (rule (y ∷ x ∷ []) (pair (x ∷ y ∷ []) ∷ []) (named (codes "z") 47 ∷ named (codes "w") 49 ∷ []))
     ≡ record {
       premise = record { table = 0; cells = Var 0 ∷ Var 1 ∷ [] } ∷ [];
-      derived = record { code = 2; args = 1 ∷ 0 ∷ [] } ∷ [];
+      derived = record { code = 7; args = 1 ∷ 0 ∷ [] } ∷ [];
       conclusion = record { table = 0; cells = Var 2 ∷ Ex 0 ∷ [] } ∷ [];
     }
 numbers = refl
@@ -123,3 +125,67 @@ derived_twice = refl
 -- of rules the first that is at fault
 first_rule : rules_fault employees persons offer (rule (x ∷ y ∷ []) [] (x ∷ y ∷ []) ∷ rule (x ∷ y ∷ []) [] (x ∷ []) ∷ rule (x ∷ []) [] [] ∷ []) ≡ Some (At 40 Width)
 first_rule = refl
+
+-- ---- several atoms
+
+-- persons, and boxes with their keepers
+abbrev boxes : Forest
+boxes = set (bare_set (codes "person") (codes "name" ∷ codes "phone" ∷ [])) none (set (bare_set (codes "box") (codes "keeper" ∷ codes "key" ∷ [])) none none)
+
+abbrev v : CellText
+v = named (codes "v") 20
+
+abbrev w : CellText
+w = named (codes "w") 47
+
+abbrev u : CellText
+u = named (codes "u") 49
+
+abbrev bosses : RuleText
+bosses = record {
+  premise = atom (codes "emp") 5 (x ∷ y ∷ []) ∷ atom (codes "emp") 14 (y ∷ v ∷ []) ∷ [];
+  derived = [];
+  conclusion = atom (codes "box") 40 (v ∷ w ∷ []) ∷ atom (codes "person") 51 (w ∷ u ∷ []) ∷ [];
+}
+
+-- variables and existential variables are numbered through all atoms of their side, and a table has its set's number
+numbered_through :
+    rule_of_text employees boxes offer bosses ≡ record {
+      premise = record { table = 0; cells = Var 0 ∷ Var 1 ∷ [] } ∷ record { table = 0; cells = Var 1 ∷ Var 2 ∷ [] } ∷ [];
+      derived = [];
+      conclusion = record { table = 1; cells = Var 2 ∷ Ex 0 ∷ [] } ∷ record { table = 0; cells = Ex 0 ∷ Ex 1 ∷ [] } ∷ [];
+    }
+numbered_through = refl
+
+-- rules in their order
+in_order :
+    rules_of_texts employees boxes offer (bosses ∷ rule (x ∷ y ∷ []) [] (x ∷ y ∷ []) ∷ [])
+    ≡ rule_of_text employees boxes offer bosses ∷ rule_of_text employees boxes offer (rule (x ∷ y ∷ []) [] (x ∷ y ∷ [])) ∷ []
+in_order = refl
+
+-- of atoms, of arguments and of derived variables the first that is at fault
+first_atom : fault (record { premise = atom (codes "emp") 5 (x ∷ []) ∷ atom (codes "boss") 14 (x ∷ []) ∷ []; derived = []; conclusion = [] }) ≡ Some (At 5 Width)
+first_atom = refl
+
+first_argument : fault (rule (x ∷ y ∷ []) (pair (w ∷ v ∷ []) ∷ []) []) ≡ Some (At 47 Unsafe)
+first_argument = refl
+
+first_derived : fault (rule (x ∷ y ∷ []) (pair (x ∷ []) ∷ derived (codes "x") 30 [] ∷ []) []) ≡ Some (At 20 Width)
+first_derived = refl
+
+-- each cell counts, and each derived variable
+size : size_of (rule (x ∷ x ∷ []) (pair (x ∷ x ∷ []) ∷ []) (x ∷ Literal (codes "w") ∷ w ∷ [])) ≡ 6
+size = refl
+
+-- a conversion of a rule is listed with as many arguments as it takes
+other_arguments : ¬ AreOffered offer (record { premise = []; derived = record { code = 7; args = 0 ∷ [] } ∷ []; conclusion = [] })
+other_arguments h = let l = h (record { code = 7; args = 0 ∷ [] }) (here refl) in takes_two l.0 l.1 l.3 where
+  takes_two : (c : Conversion) → c ∈ offer → ¬ (c.arity ≡ 1)
+  takes_two c m same = elim m [
+    | here e ↦ let d : ◌≡◌ {A = ℕ} 2 1 = ap (λ (k : Conversion). k.arity) e ∙ same in omega (arith, d)
+    | there n ↦ elim n [ ]
+  ]
+
+-- a literal in a premise is none of the grammar's
+literal_in_a_premise : ¬ IsWholeRule (rule (Literal (codes "t") ∷ []) [] (x ∷ []))
+literal_in_a_premise h = h.names (Literal (codes "t")) (here refl)
