@@ -1,4 +1,5 @@
 mod Answered
+mod Examples
 mod Few
 pub mod Fitting
 mod Follows
