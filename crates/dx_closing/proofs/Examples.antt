@@ -1,14 +1,18 @@
 -- Closings of small conclusions.
-use Rattle.std.proofs.Common.{List, [], ◌∷◌, ℕ, refl, false}
+use Rattle.std.proofs.Common.{◌≡◌, List, [], ◌∷◌, ℕ, refl, false, ap, arith, length}
+use Rattle.std.specs.Prelude.{flat_map}
 use Rattle.dx_model.specs.declared.rules.Cell.{Cell}
 use Rattle.dx_model.specs.declared.rules.Cell.TheVariants.{Var, Ex, Lit}
 use Rattle.dx_model.specs.declared.rules.Atom.{Atom}
+use Rattle.dx_model.specs.declared.rules.Derived.{Derived}
+use Rattle.dx_model.specs.declared.rules.Rule.{Rule}
 use Rattle.dx_model.specs.declared.tables.Link.{Link}
+use Rattle.dx_model.specs.Rules.{cells_of}
 use Rattle.dx_model.specs.Tables.{Table}
 use Rattle.dx_schema.specs.Forest.{Forest, none, set, bare_set}
 use Rattle.dx_schema.specs.Tables.{model_tables}
 use Rattle.dx_ports.specs.Texts.{Text}
-use Rattle.dx_closing.specs.Closing.{IsClosing}
+use Rattle.dx_closing.specs.Closing.{IsClosing, IsClosingOf}
 
 abbrev a : Text
 a = 97 ∷ []
@@ -97,3 +101,36 @@ crossed :
     IsClosing (table 3 [] ∷ table 3 (record { from = 2 ∷ 0 ∷ []; table = 0; to = 0 ∷ 2 ∷ [] } ∷ []) ∷ []) (atom 1 (Var 0 ∷ Var 1 ∷ Var 2 ∷ []) ∷ [])
     (atom 1 (Var 0 ∷ Var 1 ∷ Var 2 ∷ []) ∷ atom 0 (Var 2 ∷ Ex 0 ∷ Var 0 ∷ []) ∷ [])
 crossed = refl
+
+-- optional links are not gone along
+optional_stays : IsClosing (record { width = 1; determinations = []; links = []; optional = link 0 1 0 ∷ [] } ∷ table 1 [] ∷ []) (atom 0 (Var 0 ∷ []) ∷ []) (atom 0 (Var 0 ∷ []) ∷ [])
+optional_stays = refl
+
+-- ---- closings of rules
+
+-- a rule with one premise atom and one derived variable
+abbrev hired : List Cell → List ℕ → List Atom → Rule
+hired cells args conclusion = record { premise = atom 0 cells ∷ []; derived = record { code = 0; args = args } ∷ []; conclusion = conclusion }
+
+-- table 0 (x0, x1), with x2 made of x1 -> staff(y0, x2)
+abbrev open_rule : Rule
+open_rule = hired (Var 0 ∷ Var 1 ∷ []) (1 ∷ []) (staff (Ex 0) (Var 2) ∷ [])
+
+abbrev closed : List Atom
+closed = staff (Ex 0) (Var 2) ∷ unit (Ex 0) (Ex 1) ∷ []
+
+-- its closing has the same premise and derived variables
+closing_of : IsClosingOf (model_tables units) open_rule (hired (Var 0 ∷ Var 1 ∷ []) (1 ∷ []) closed)
+closing_of = record { premise = refl; derived = refl; conclusion = refl }
+
+-- with another premise it is none
+other_premise : ¬ IsClosingOf (model_tables units) open_rule (hired (Var 0 ∷ []) (1 ∷ []) closed)
+other_premise h = let d : ◌≡◌ {A = ℕ} 1 2 = ap (λ (xs : List Atom). length (cells_of xs)) h.premise in omega (arith, d)
+
+-- nor with another derived variable
+other_derived : ¬ IsClosingOf (model_tables units) open_rule (hired (Var 0 ∷ Var 1 ∷ []) (1 ∷ 1 ∷ []) closed)
+other_derived h = let d : ◌≡◌ {A = ℕ} 2 1 = ap (λ (ds : List Derived). length (flat_map (λ (e : Derived). e.args) ds)) h.derived in omega (arith, d)
+
+-- and what is not closed is no closing
+not_closed : ¬ IsClosingOf (model_tables units) open_rule open_rule
+not_closed h = let d : ◌≡◌ {A = ℕ} 2 1 = ap (λ (xs : List Atom). length xs) h.conclusion in omega (arith, d)
