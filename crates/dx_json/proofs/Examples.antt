@@ -1,19 +1,32 @@
 -- What small documents say, their first faults, and the documents of small instances, computed.
-use Rattle.std.proofs.Common.{◌≡◌, ℕ, List, [], ◌∷◌, Some, None, true, map, codes, refl}
+use Rattle.std.proofs.Common.{◌≡◌, ℕ, zero, suc, List, [], ◌∷◌, ◌++◌, Option, Some, None, true, false, map, codes, refl, subst}
 use Rattle.std.specs.Fmt.{digits}
-use Rattle.std.specs.Prelude.{Float}
+use Rattle.std.specs.Prelude.{Float, negsuc}
+use Rattle.std.specs.Char.{encode_utf8}
+use Rattle.std.specs.Str.{chars, is_utf8}
+use Rattle.std.specs.declared.cmp.Ordering.TheVariants.{Less}
+use Rattle.std.proofs.lemmas.Bool.{false≢true}
+use Rattle.std.proofs.lemmas.Str.{is_utf8-from_IsUtf8}
+use Rattle.json.specs.Json.{items, members, value}
+use Rattle.json.specs.Lex.{lex, punctuate}
 use Rattle.json.specs.Print.{escape_byte}
-use Rattle.serde_json.specs.Data.{Data, unsigned, float, null, boolean, number, string, array, object, Items, no_items, item, no_members, member}
+use Rattle.json.specs.Text.{code_unit, content, short_escape}
+use Rattle.json.specs.Word.{after_number, word}
+use Rattle.serde_json.specs.Data.{Data, Num, unsigned, negative, float, null, boolean, number, string, array, object, Items, no_items, item, no_members, member}
+use Rattle.serde_json.specs.Read.{read}
+use Rattle.dx_ports.specs.Members.{◌∈◌, ◌⊆◌, here, there}
 use Rattle.dx_model.specs.declared.values.NullId.{NullId}
+use Rattle.dx_model.specs.declared.values.Value.{Value}
 use Rattle.dx_model.specs.declared.values.Value.TheVariants.{Const, Null}
+use Rattle.dx_model.specs.Values.{RowsAscend, row_cmp}
 use Rattle.dx_model.specs.declared.facts.Fact.{Fact}
 use Rattle.dx_schema.specs.Forest.{Forest, Label, Tree, none, set, bare_set}
 use Rattle.dx_ports.specs.Texts.{Text}
-use Rattle.dx_instance.specs.Stored.{TableRows}
+use Rattle.dx_instance.specs.Stored.{TableRows, rows_of}
 use Rattle.dx_json.specs.declared.fault.JsonKind.TheVariants as kind
-use Rattle.dx_json.specs.Said.{DocumentItem, says, wrong_shape, wrong_number, unknown_member}
-use Rattle.dx_json.specs.Documents.{document_says, first_fault, tree_says, without_mark}
-use Rattle.dx_json.specs.Nesting.{nested_text, root_objects}
+use Rattle.dx_json.specs.Said.{DocumentItem, says, wrong_shape, wrong_number, unknown_member, column_faults, constant, data_reading, id_of, no_constant}
+use Rattle.dx_json.specs.Documents.{IsDocument, document_says, first_fault, tree_says, without_mark}
+use Rattle.dx_json.specs.Nesting.{IsNestedText, nested_text, root_objects}
 
 abbrev label : Text → List Text → Label
 label name columns = bare_set name columns
@@ -104,6 +117,96 @@ first f p q = refl
 no_fault : (f : Fact) → first_fault (says f ∷ says f ∷ []) ≡ None
 no_fault f = refl
 
+-- the document is an array, and each of its items an object, whatever else stands there
+no_value_is_an_array : (n : Num) (s : Text)
+    → tree_says club 0 null ++
+    (tree_says club 0 (boolean true) ++ (tree_says club 0 (number n) ++ tree_says club 0 (string s)))
+    ≡ wrong_shape [] ∷ wrong_shape [] ∷ wrong_shape [] ∷ wrong_shape [] ∷ []
+no_value_is_an_array n s = refl
+
+no_value_is_an_object : (n : Num) (s : Text)
+    → tree_says club 0
+    (array (item (boolean true) (item (number n) (item (string s) (item (array no_items) no_items)))))
+    ≡ wrong_shape (codes "/0") ∷ wrong_shape (codes "/1") ∷ wrong_shape (codes "/2") ∷ wrong_shape (codes "/3") ∷ []
+unfolding digits
+no_value_is_an_object n s = refl
+
+-- so it is with the member of an inner set
+member_of : Data → List DocumentItem
+unfolding digits
+member_of d = tree_says club 0 (one (object (member (codes "member") d no_members)))
+
+no_member : (n : Num) → map member_of (boolean true ∷ number n ∷ object no_members ∷ array (item null no_items) ∷ [])
+    ≡ map (λ (path : Text). fact 0 (codes "#0" ∷ [] ∷ []) ∷ wrong_shape path ∷ [])
+    (codes "/0/member" ∷ codes "/0/member" ∷ codes "/0/member" ∷ codes "/0/member/0" ∷ [])
+unfolding member_of
+no_member n = refl
+
+-- of a column: integers are their digits, strings themselves, also if they look like nulls; objects are no texts
+readings : map data_reading
+    (boolean false ∷ boolean true ∷ number (unsigned 18446744073709551615) ∷ number (negative (negsuc 2))
+    ∷ string (codes "?0.0.0") ∷ object no_members ∷ [])
+    ≡ constant (codes "false") ∷ constant (codes "true") ∷ constant (codes "18446744073709551615")
+    ∷ constant (codes "-3") ∷ constant (codes "?0.0.0") ∷ no_constant ∷ []
+unfolding digits
+readings = refl
+
+-- unknown members come in the order of their names, the faults of columns in that of the columns, and then the row
+in_order : document_says schema 0
+    (one (object
+    (member (codes "a") null
+    (member (codes "b") null
+    (member (codes "tname") (object no_members) (member (codes "zip") (array no_items) no_members))))))
+    ≡ unknown_member (codes "/0/a") ∷ unknown_member (codes "/0/b") ∷ wrong_shape (codes "/0/tname")
+    ∷ wrong_shape (codes "/0/zip") ∷ fact 0 ([] ∷ [] ∷ []) ∷ []
+unfolding digits
+in_order = refl
+
+columns_in_order : column_faults [] (codes "zip" ∷ codes "tname" ∷ [])
+    (member (codes "tname") (object no_members) (member (codes "zip") (array no_items) no_members))
+    ≡ wrong_shape (codes "/zip") ∷ wrong_shape (codes "/tname") ∷ []
+columns_in_order = refl
+
+-- inner sets come in the order in which they are declared, each with its own path
+inner_sets_in_order : tree_says shop 1
+    (one (object (member (codes "clerk") (one null) (member (codes "shelf") (one null) no_members))))
+    ≡ fact 1 (codes "#0" ∷ [] ∷ []) ∷ wrong_shape (codes "/0/shelf/0") ∷ wrong_shape (codes "/0/clerk/0") ∷ []
+unfolding digits
+inner_sets_in_order = refl
+
+-- `#id`s count from 0 in each list, below that of the object around it
+ids : id_of None 12 ∷ id_of (Some (codes "#1")) 0 ∷ id_of (Some (codes "#1.0")) 3 ∷ []
+    ≡ codes "#12" ∷ codes "#1.0" ∷ codes "#1.0.3" ∷ []
+unfolding digits
+ids = refl
+
+-- a text that is the text of a value is a document, with a mark in front or without; two marks are too many
+abbrev small : List ℕ
+small = codes "[{\"zip\": \"8\", \"a\": null, \"zip\": \"9\"}]"
+
+tree_of : List ℕ → Option Data
+unfolding lex punctuate content code_unit short_escape word after_number items members value
+tree_of bytes = read (without_mark bytes)
+
+-- of a member twice the last one counts, and members are in the order of their names
+of_small : tree_of small
+    ≡ Some (one (object (member (codes "a") null (member (codes "zip") (string (codes "9")) no_members))))
+unfolding tree_of
+of_small = refl
+
+of_marked : tree_of (239 ∷ 187 ∷ 191 ∷ small) ≡ tree_of small
+unfolding tree_of
+of_marked = refl
+
+of_two_marks : tree_of (239 ∷ 187 ∷ 191 ∷ 239 ∷ 187 ∷ 191 ∷ small) ≡ None
+unfolding tree_of
+of_two_marks = refl
+
+-- bytes that are no UTF-8 are no document
+no_text : (d : Data) → ¬ (IsDocument (91 ∷ 34 ∷ 255 ∷ 34 ∷ 93 ∷ []) d)
+unfolding is_utf8 chars encode_utf8
+no_text d x = false≢true (is_utf8-from_IsUtf8 (91 ∷ 34 ∷ 255 ∷ 34 ∷ 93 ∷ []) x.0)
+
 -- one mark is left out
 mark : without_mark (239 ∷ 187 ∷ 191 ∷ 239 ∷ 187 ∷ 191 ∷ codes "[]") ≡ 239 ∷ 187 ∷ 191 ∷ codes "[]"
 mark = refl
@@ -161,3 +264,59 @@ town_text = refl
 
 no_rows : nested_text [] club 0 ≡ codes "[]\n"
 no_rows = refl
+
+-- a text that looks like a null is not that null
+of_nulls : List TableRows
+of_nulls =
+    record { width = 2; rows = (Null (null_of 0 0 7) ∷ Const (codes "A") ∷ []) ∷ [] }
+    ∷ record {
+      width = 3;
+      rows = (Const (codes "?0.0.7") ∷ Const (codes "x") ∷ Const [] ∷ [])
+          ∷ (Null (null_of 0 0 7) ∷ Const (codes "y") ∷ Const [] ∷ []) ∷ [];
+    }
+    ∷ []
+
+nested_of_nulls : root_objects of_nulls club 0
+    ≡ item (a_club (codes "A") (item (person (codes "y") []) no_items)) no_items
+unfolding of_nulls
+nested_of_nulls = refl
+
+-- objects are in the order of the rows when these ascend, in whichever order they are given
+abbrev two_towns : List Value → List Value → List TableRows
+two_towns first second = record { width = 2; rows = first ∷ second ∷ [] } ∷ []
+
+abbrev a_town : List Value
+a_town = Const (codes "a") ∷ Const (codes "1") ∷ []
+
+abbrev b_town : List Value
+b_town = Const (codes "b") ∷ Const (codes "0") ∷ []
+
+turned : (x y : List Value) → (x ∷ y ∷ []) ⊆ (y ∷ x ∷ [])
+turned x y z (here e) = there (here e)
+turned x y z (there (here e)) = here e
+turned x y z (there (there m)) = elim m [ ]
+
+in_ascending_order : IsNestedText (two_towns b_town a_town) schema 0
+    (codes "[{\"tname\":\"a\",\"zip\":\"1\"},{\"tname\":\"b\",\"zip\":\"0\"}]\n")
+unfolding escape_byte
+in_ascending_order = record {
+  sorted = two_towns a_town b_town;
+  same = record { widths_stay = refl; ascend = ascend; kept = kept; only = only };
+  is = refl;
+}
+  where
+    less : (x : List Value) → x ∈ (b_town ∷ []) → row_cmp a_town x ≡ Less
+    less x (here e) = subst (λ r. row_cmp a_town r ≡ Less) e refl
+    less x (there m) = elim m [ ]
+
+    ascend : (t : ℕ) → RowsAscend (rows_of (two_towns a_town b_town) t)
+    ascend zero = ((λ x m. less x m), ((λ x m. elim m [ ]), tt))
+    ascend (suc t) = tt
+
+    kept : (t : ℕ) → rows_of (two_towns b_town a_town) t ⊆ rows_of (two_towns a_town b_town) t
+    kept zero = turned b_town a_town
+    kept (suc t) = λ x m. m
+
+    only : (t : ℕ) → rows_of (two_towns a_town b_town) t ⊆ rows_of (two_towns b_town a_town) t
+    only zero = turned a_town b_town
+    only (suc t) = λ x m. m
