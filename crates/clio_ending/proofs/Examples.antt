@@ -1,8 +1,11 @@
 -- Which refusals are alike; the names of a clash; and what is said of endings, with their statuses.
-use Rattle.std.proofs.Common.{◌≡◌, ℕ, List, [], ◌∷◌, codes, get_or, refl, ap, arith, inl, inr, false, true}
+use Rattle.std.proofs.Common.{◌≡◌, ℕ, List, [], ◌∷◌, Some, None, codes, get_or, map, refl, ap, arith, inl, inr, false, true}
 use Rattle.std.specs.Fmt.{digits}
 use Rattle.dx_ports.specs.declared.file.Count.{Count}
 use Rattle.dx_ports.specs.declared.file.Count.TheVariants as counts
+use Rattle.dx_ports.specs.declared.file.Limit.{Limit}
+use Rattle.dx_stages.specs.declared.plan.Ended.TheVariants as endeds
+use Rattle.dx_tokens.specs.declared.faults.TextFault.TheVariants as text_faults
 use Rattle.dx_tokens.specs.declared.faults.TextKind.TheVariants as text_kinds
 use Rattle.dx_schema.specs.Forest.{Forest, none, set}
 use Rattle.dx_schema.specs.declared.fault.SchemaKind.TheVariants as schema_kinds
@@ -10,19 +13,23 @@ use Rattle.dx_csv.specs.declared.fault.RowKind.TheVariants as kinds
 use Rattle.dx_json.specs.declared.fault.JsonKind.TheVariants as json_kinds
 use Rattle.dx_model.specs.declared.values.Value.TheVariants.{Const}
 use Rattle.dx_keys.specs.declared.answers.Clash.{Clash}
+use Rattle.dx_exchange.specs.declared.fault.ExFault.TheVariants as exchange_faults
+use Rattle.clio_accept.specs.declared.fault.AcceptFault.TheVariants as accept_faults
 use Rattle.clio_accept.specs.declared.fault.MapFault.{MapFault}
 use Rattle.clio_accept.specs.declared.fault.MapFault.TheVariants as map_faults
 use Rattle.clio_source.specs.declared.fault.RowsFault.{RowsFault}
 use Rattle.clio_source.specs.declared.fault.RowsFault.TheVariants as rows_faults
+use Rattle.clio_source.specs.declared.fault.SourceRefusal.TheVariants as source_refusals
 use Rattle.clio_ending.specs.declared.faults.OtherFault.{OtherFault}
 use Rattle.clio_ending.specs.declared.faults.OtherFault.TheVariants as other_faults
 use Rattle.clio_ending.specs.declared.faults.QueryFault.{QueryFault}
 use Rattle.clio_ending.specs.declared.faults.QueryFault.TheVariants as query_faults
+use Rattle.clio_ending.specs.declared.ending.Done.{Done}
 use Rattle.clio_ending.specs.declared.ending.Refusal.{Refusal}
 use Rattle.clio_ending.specs.declared.ending.Refusal.TheVariants as refusals
 use Rattle.clio_ending.specs.declared.ending.Ending.TheVariants as endings
-use Rattle.clio_ending.specs.Ending.{AreAlike, named_clash, refusal_ending, status_of}
-use Rattle.clio_ending.specs.Message.{message_of}
+use Rattle.clio_ending.specs.Ending.{AreAlike, column_text, ending_of, exchange_refusal, left_columns, mapping_refusal, named_clash, other_refusal, query_refusal, refusal_ending, source_refusal, status_of}
+use Rattle.clio_ending.specs.Message.{count_text, json_kind_text, kind_text, message_of, schema_kind_text, text_kind_text}
 
 -- ---- which refusals are alike
 
@@ -200,3 +207,111 @@ statuses : (c : Clash) (fault : MapFault) (file : List ℕ) (rows : RowsFault) (
     ∷ status_of (refusal_ending (refusals.Other other)) ∷ [])
     ≡ 2 ∷ 3 ∷ 4 ∷ 5 ∷ 6 ∷ 7 ∷ 8 ∷ 9 ∷ 10 ∷ 11 ∷ []
 statuses c fault file rows query other = refl
+
+-- ---- which refusal a fault is
+
+-- a fault of the second mapping's text is told as one of the second, a limit without a sign of the file, and want of
+-- memory refuses nothing
+mapping_faults : (l : Limit)
+    → map mapping_refusal (accept_faults.Mapping map_faults.Absent ∷ accept_faults.Limit l ∷ accept_faults.Memory ∷ [])
+    ≡ Some (refusals.Mapping map_faults.Absent) ∷ Some (refusals.Limit l) ∷ None ∷ []
+mapping_faults l = refl
+
+other_mapping_faults : (l : Limit)
+    → map other_refusal (accept_faults.Mapping map_faults.Absent ∷ accept_faults.Limit l ∷ accept_faults.Memory ∷ [])
+    ≡ Some (refusals.Other (other_faults.Mapping map_faults.Absent)) ∷ Some (refusals.Limit l) ∷ None ∷ []
+other_mapping_faults l = refl
+
+query_text_faults : map query_refusal
+    (text_faults.At 5 text_kinds.Ended ∷ text_faults.TooDeep 5 ∷ text_faults.Memory ∷ [])
+    ≡ Some (refusals.Query (query_faults.Text 5 text_kinds.Ended)) ∷ None ∷ None ∷ []
+query_text_faults = refl
+
+source_faults : (l : Limit)
+    → map source_refusal (source_refusals.Rows (codes "emp.csv") rows_faults.Absent ∷ source_refusals.Limit l ∷ [])
+    ≡ refusals.Rows (codes "emp.csv") rows_faults.Absent ∷ refusals.Limit l ∷ []
+source_faults l = refl
+
+exchange_faults_are : (l : Limit)
+    → map (exchange_refusal towns) (exchange_faults.Clash clash ∷ exchange_faults.Limit l ∷ exchange_faults.Memory ∷ [])
+    ≡ Some (refusals.Clash clash (codes "town") (codes "name" ∷ codes "land" ∷ []) (codes "zip"))
+    ∷ Some (refusals.Limit l) ∷ None ∷ []
+unfolding towns clash
+exchange_faults_are l = refl
+
+-- a read that failed tells the file, a write that failed how many files were written
+ended : map ending_of
+    (endeds.Refused refusals.Usage ∷ endeds.ReadFault (codes "emp.csv") ∷ endeds.WriteFault 3 ∷ endeds.Memory ∷ [])
+    ≡ endings.Usage ∷ endings.ReadFault (codes "emp.csv") ∷ endings.WriteFault 3 ∷ endings.Memory ∷ []
+ended = refl
+
+ended_well : (d : Done)
+    → (ending_of (endeds.Done d) ≡ endings.Done d) × (status_of (endings.Done d) ≡ 0)
+    × (message_of (endings.Done d) ≡ [])
+ended_well d = (refl, refl, refl)
+
+-- a dependency has its number after the keys
+zips : Forest
+zips =
+    set (record {
+      name = codes "town";
+      columns = codes "name" ∷ codes "zip" ∷ codes "land" ∷ [];
+      keys = record { columns = codes "name" ∷ [] } ∷ [];
+      deps = record { columns = codes "zip" ∷ []; decides = codes "land" ∷ [] } ∷ [];
+      refs = [];
+    }) none none
+
+of_a_dependency : map (column_text zips 0) (left_columns zips 0 1) ≡ codes "zip" ∷ []
+unfolding zips
+of_a_dependency = refl
+
+-- ---- all words, as the manual has them
+
+counted : map count_text
+    (counts.TextBytes ∷ counts.Depth ∷ counts.Tables ∷ counts.Columns ∷ counts.Lines ∷ counts.Variants
+    ∷ counts.Occurrences ∷ counts.Ways ∷ counts.Candidates ∷ [])
+    ≡ codes "text bytes" ∷ codes "depth" ∷ codes "tables" ∷ codes "columns" ∷ codes "lines" ∷ codes "variants"
+    ∷ codes "occurrences" ∷ codes "ways" ∷ codes "candidates" ∷ []
+counted = refl
+
+counted_too : map count_text
+    (counts.Rules ∷ counts.DataBytes ∷ counts.SourceCells ∷ counts.GivenCells ∷ counts.TargetCells ∷ counts.QueryBytes
+    ∷ counts.QueryAtoms ∷ counts.AnswerCells ∷ counts.FrozenCells ∷ [])
+    ≡ codes "rules" ∷ codes "data bytes" ∷ codes "source cells" ∷ codes "given cells" ∷ codes "target cells"
+    ∷ codes "query bytes" ∷ codes "query atoms" ∷ codes "answer cells" ∷ codes "frozen cells" ∷ []
+counted_too = refl
+
+text_kinds_are : map text_kind_text
+    (text_kinds.Character ∷ text_kinds.Expected ∷ text_kinds.Ended ∷ text_kinds.UnknownName ∷ text_kinds.Width
+    ∷ text_kinds.Unsafe ∷ [])
+    ≡ codes "bad character" ∷ codes "unexpected token" ∷ codes "text ended" ∷ codes "unknown name"
+    ∷ codes "wrong number of cells" ∷ codes "unsafe variable" ∷ []
+text_kinds_are = refl
+
+schema_kinds_are : map schema_kind_text
+    (schema_kinds.UnknownName (codes "X") ∷ schema_kinds.BadLink (codes "X") ∷ schema_kinds.NoColumn (codes "X") ∷ [])
+    ≡ codes "unknown name X" ∷ codes "bad link in X" ∷ codes "no column in X" ∷ []
+schema_kinds_are = refl
+
+row_kinds_are : map kind_text (kinds.NoHeader ∷ kinds.Header 10 ∷ kinds.Width 12 ∷ [])
+    ≡ codes "no header" ∷ codes "header at column 10" ∷ codes "width of record 12" ∷ []
+unfolding digits
+row_kinds_are = refl
+
+json_kinds_are : map json_kind_text
+    (json_kinds.NotJson ∷ json_kinds.Shape (codes "/0/x") ∷ json_kinds.Shape [] ∷ json_kinds.Number (codes "/1/y") ∷ [])
+    ≡ codes "not JSON" ∷ codes "wrong shape at /0/x" ∷ codes "wrong shape at " ∷ codes "number at /1/y" ∷ []
+json_kinds_are = refl
+
+-- what comes in front, and two messages without a part
+in_front : map message_of
+    (endings.Mapping map_faults.Absent ∷ endings.Mapping (map_faults.Target (schema_kinds.BadLink (codes "X")))
+    ∷ endings.Query (query_faults.Text 7 text_kinds.Ended) ∷ endings.Memory ∷ [])
+    ≡ codes "mapping: mapping.clio is absent" ∷ codes "mapping: target: bad link in X"
+    ∷ codes "query: text ended at byte 7" ∷ codes "out of memory" ∷ []
+unfolding digits
+in_front = refl
+
+usage : message_of endings.Usage
+    ≡ codes "usage: clio show [--core] | clio exchange [--core] [--nested] | clio demo N [--core] | clio answer | clio judge | clio compare"
+usage = refl
