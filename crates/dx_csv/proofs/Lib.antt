@@ -11,3 +11,4 @@ pub mod BlankFacts
 pub mod TextsDiffer
 pub mod PlainFacts
 pub mod OneField
+mod Examples
