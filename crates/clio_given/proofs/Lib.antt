@@ -3,3 +3,4 @@ pub mod Fits
 pub mod Runs
 pub mod Decided
 pub mod Fitted
+mod Examples
