@@ -1,11 +1,12 @@
 -- Departments with their employees, and cities: the files of their roots, their bytes, and the cells of their facts.
-use Rattle.std.proofs.Common.{◌≡◌, ℕ, List, [], ◌∷◌, codes, refl, ap, arith, inr, Some}
+use Rattle.std.proofs.Common.{◌≡◌, ℕ, List, [], ◌∷◌, true, false, codes, refl, sym, subst, ap, arith, inr, Some}
 use Rattle.std.specs.Prelude.{Ok, Err}
 use Rattle.dx_ports.specs.Members.{here, there}
 use Rattle.dx_model.specs.declared.values.Value.TheVariants.{Const}
 use Rattle.dx_model.specs.declared.facts.Fact.{Fact}
 use Rattle.dx_schema.specs.Forest.{Forest, none, set, bare_set}
-use Rattle.clio_source.specs.Agreeing.{IsFlatRoot}
+use Rattle.dx_used.specs.Used.{Marks, fact_blanked}
+use Rattle.clio_source.specs.Agreeing.{AreBlank, IsFlatRoot}
 use Rattle.dx_stages.specs.Worlds.{World}
 use Rattle.clio_source.specs.Source.{ReadState, SaysSourceFacts, as_facts, fact_cells, fetching, file_at, flat, roots, too_many_bytes, too_many_cells, with_facts}
 
@@ -80,3 +81,25 @@ six_do_not = inr (codes "names\n", refl, omega arith, refl)
 -- and then so many fewer are left
 none_is_left : (q : ReadState × List Fact) → SaysSourceFacts flat depts 2 (before 8, codes "name\n") q → q.0.bytes_left ≡ 0
 none_is_left q x = ap (λ (r : ReadState × List Fact). r.0.bytes_left) x.2
+
+-- ---- columns that no rule uses: those of the departments' and the cities' names
+
+abbrev unused : Marks
+unused = (true ∷ false ∷ []) ∷ (true ∷ true ∷ true ∷ []) ∷ (false ∷ []) ∷ []
+
+-- nothing stands there in the cities, which come of a flat root; the departments come of a document and stay
+blank_cities : AreBlank unused depts
+    (record { table = 2; row = Const [] ∷ [] }
+    ∷ record { table = 0; row = Const (codes "0") ∷ Const (codes "cs") ∷ [] } ∷ [])
+blank_cities f (here e) h = subst (λ (x : Fact). fact_blanked unused x ≡ x) e refl
+blank_cities f (there (here e)) h =
+    absurd (nested_departments (subst (λ (x : Fact). IsFlatRoot depts x.table) (sym e) h))
+blank_cities f (there (there m)) h = elim m [ ]
+
+no_rome : ¬ (AreBlank unused depts (record { table = 2; row = Const (codes "rome") ∷ [] } ∷ []))
+no_rome h =
+    let e : Const [] ∷ []
+    ≡ Const (codes "rome")
+    ∷ [] = ap (λ (f : Fact). f.row)
+    (h (record { table = 2; row = Const (codes "rome") ∷ [] }) (here refl) flat_cities) in
+    absurd (cc e)
