@@ -25,7 +25,6 @@ use Rattle.dx_model.specs.Solutions.{IsSolution}
 use Rattle.dx_model.specs.Tables.{Determination, Table, cell, fact_of_row, table_of, determination_at}
 use Rattle.dx_model.specs.Values.{Conversions, Rows, row_cmp}
 use Rattle.dx_model.proofs.ByMembers.{uncovered_is_part}
-use Rattle.dx_instance.specs.Stored.{TableRows, facts}
 use Rattle.dx_schema.specs.Forest.{Forest, Tree, none, set}
 use Rattle.dx_schema.specs.Links.{IsFaultless, every_link}
 use Rattle.dx_schema.specs.Tables.{model_tables}
@@ -41,6 +40,7 @@ use Rattle.dx_schema_text.specs.Reading.{key_clause, line_item, place_text, tree
 use Rattle.dx_schema_text.specs.Spelling.{SpellsClauses, SpellsHead, SpellsLine, SpellsMapping, SpellsSet, SpellsSide}
 use Rattle.dx_schema_text.specs.Spelling as spelling
 use Rattle.dx_schema_text.specs.Texts.{IsMappingText, deepest}
+use Rattle.dx_instance.specs.Stored.{TableRows, facts}
 use Rattle.dx_csv.specs.Table.{table_records}
 use Rattle.dx_tgd.specs.Counting.{canonical_cells}
 use Rattle.dx_keys.specs.declared.answers.Clash.{Clash}
@@ -499,7 +499,7 @@ this_clash P mode k table key column h is =
     let clash = subst (λ (r : Rows). IsClash schema (meant mode (rule ∷ []) r) k) found h.clash in
     let place = only_key k.table k.key clash.key in
     let at = subst (λ (m : ℕ). IsClashAt schema (after k.steps (meant mode (rule ∷ []) matches)) (fact_of_row 0 k.left) (fact_of_row 0 k.right) (determination_at schema 0 m) k.column) place.1
-        (subst (λ (m : ℕ). IsClashAt schema (after k.steps (meant mode (rule ∷ []) matches)) (fact_of_row m k.left) (fact_of_row m k.right) (determination_at schema m k.key) k.column) place.0 clash.clash) in
+    (subst (λ (m : ℕ). IsClashAt schema (after k.steps (meant mode (rule ∷ []) matches)) (fact_of_row m k.left) (fact_of_row m k.right) (determination_at schema m k.key) k.column) place.0 clash.clash) in
     let part = no_step (meant mode (rule ∷ []) matches) (meant_part mode) k.steps clash.steps in
     let two_rows = rows_are k.column k.left k.right (after k.steps (meant mode (rule ∷ []) matches)) part at clash.lesser in
     let names = named_so k table key column is place.0 place.1 two_rows.2 in (two_rows.0, two_rows.1, names.0, names.1, names.2)

@@ -30,11 +30,11 @@ use Rattle.dx_model.proofs.ByMembers.{values_part}
 use Rattle.dx_model.proofs.Maps.{same_null-refl}
 use Rattle.dx_model.proofs.OneMap.{one_map}
 use Rattle.dx_model.proofs.Orders.{null_total}
+use Rattle.dx_schema.specs.Tables.{tables_of}
 use Rattle.dx_instance.specs.NullMaps.{pairs_of}
 use Rattle.dx_instance.specs.Stored.{TableRows, facts, rows_of}
 use Rattle.dx_instance.proofs.Placed.{row_total}
 use Rattle.dx_instance.proofs.StoredFacts.{fact_from_row, row_from_fact}
-use Rattle.dx_schema.specs.Tables.{tables_of}
 use Rattle.dx_csv.specs.Table.{table_records}
 use Rattle.dx_tgd.specs.Counting.{canonical_cells}
 use Rattle.dx_exchange.specs.declared.mode.Mode.{Mode}
@@ -280,17 +280,17 @@ first_here m e = subst (λ v. v ∈ values made) e (there (here refl))
 
 forced_at : (n : NullId) → (n ≡ number_of 0) ⊎ (n ≡ number_of 1) → IsForcedValue schema made n (given joined n)
 forced_at n (inl is) = subst (λ k. IsForcedValue schema made k (given joined k)) (sym is) (record {
-    forced = λ K g keyed h. refl;
-    constant = λ t f. absurd (no_constant (number_of 0) t refl f);
-    of_here = first_here;
-    least = λ m there_is f. not_above m (nulls_made m there_is);
-  })
+  forced = λ K g keyed h. refl;
+  constant = λ t f. absurd (no_constant (number_of 0) t refl f);
+  of_here = first_here;
+  least = λ m there_is f. not_above m (nulls_made m there_is);
+})
 forced_at n (inr is) = subst (λ k. IsForcedValue schema made k (given joined k)) (sym is) (record {
-    forced = numbers_join;
-    constant = λ t f. absurd (no_constant (number_of 1) t refl f);
-    of_here = first_here;
-    least = λ m there_is f. not_above m (nulls_made m there_is);
-  })
+  forced = numbers_join;
+  constant = λ t f. absurd (no_constant (number_of 1) t refl f);
+  of_here = first_here;
+  least = λ m there_is f. not_above m (nulls_made m there_is);
+})
 
 joined_is_forced : IsForcedMap schema made joined
 joined_is_forced = record {
@@ -320,7 +320,7 @@ pair_is m f p k gives moves = of (nulls_made p.null (f.here_alone p k))
 one_pair : (m : List NullPair) → IsForcedMap schema made m → m ≡ joined
 one_pair [] f =
     let h : Null (number_of 1) ≡ Null (number_of 0) =
-        one_map schema made [] joined f joined_is_forced (number_of 1) (there (there (there (there (there (here refl)))))) in
+    one_map schema made [] joined f joined_is_forced (number_of 1) (there (there (there (there (there (here refl)))))) in
     let same : number_of 1 ≡ number_of 0 = cc h in
     let k = ap (λ (n : NullId). n.row) same in absurd (omega (arith, k))
 one_pair (p ∷ []) f = ap (λ (q : NullPair). q ∷ []) (pair_is (p ∷ []) f p (here refl) (rw (same_null-refl p.null) refl) f.null_map.0)

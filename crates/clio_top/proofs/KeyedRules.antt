@@ -5,6 +5,8 @@ use Rattle.std.specs.Prelude.{codes}
 use Rattle.std.specs.Cmp.Lexicographic.{nat_list_cmp_total}
 use Rattle.std.specs.FinMap.{from_entries, get-insert}
 use Rattle.std.specs.declared.cmp.Ordering.TheVariants.{Less}
+use Rattle.std.proofs.lemmas.List.{length-append}
+use Rattle.std.specs.Ordering.{ordering_reverse}
 use Rattle.dx_ports.specs.Entries.{FileMap}
 use Rattle.dx_ports.specs.Members.{◌∈◌, here, there}
 use Rattle.dx_ports.specs.Texts.{Text}
@@ -19,6 +21,7 @@ use Rattle.dx_model.specs.Rules.{AreRows, Satisfies, fact_of_atom, exported, pre
 use Rattle.dx_model.specs.Tables.{Table, table_of}
 use Rattle.dx_model.specs.Values.{Conversions, Rows, Tuple, tuple_cmp}
 use Rattle.dx_model.proofs.Orders.{tuple_total}
+use Rattle.dx_model.specs.Following.{CanGo, PrunedAfter, SatisfyAll, frozen_text, underived}
 use Rattle.dx_schema.specs.Forest.{Forest, Tree, none, set}
 use Rattle.dx_schema.specs.Links.{IsAcyclic, IsFaultless, LeadsByLinks, directly, every_link, further}
 use Rattle.dx_schema.specs.Tables.{model_tables}
@@ -32,7 +35,11 @@ use Rattle.dx_schema_text.specs.declared.texts.MappingText.{MappingText}
 use Rattle.dx_schema_text.specs.Reading.{key_clause, line_item, place_text, ref_clause, reference_of, tree_of_clauses}
 use Rattle.dx_schema_text.specs.Spelling.{SpellsClauses, SpellsHead, SpellsLine, SpellsMapping, SpellsSet, SpellsSide}
 use Rattle.dx_schema_text.specs.Texts.{IsMappingText, deepest}
+use Rattle.dx_schema_text.specs.declared.texts.SourceText.TheVariants as sources
+use Rattle.dx_schema_text.specs.Spelling as spelling
 use Rattle.dx_tgd.specs.Counting.{canonical_cells}
+use Rattle.dx_implies.specs.Frozen.{PassesFrozen, frozen_premise, marks}
+use Rattle.dx_implies.specs.Pruning.{IsPrunedAlways, PassesBeside, PruningPassesLimit}
 use Rattle.clio_accept.specs.declared.mapping.Mapping.{Mapping}
 use Rattle.clio_accept.specs.Accepting.{accepting, between_of, taking}
 use Rattle.clio_accept.specs.Mapping.{AreRulesOf, NoneReserved, frozen_cells}
@@ -41,13 +48,6 @@ use Rattle.clio_top.specs.KeyedWorlds.{keyed_text, keyed_world}
 use Rattle.clio_top.proofs.Examples.{mark, word}
 use Rattle.clio_top.proofs.OneRule.{few_on, no_conversions}
 use Rattle.clio_top.proofs.TwoEmps.{emp_side, emps, emps_are, of_emps, t0, t1, t10, t11, t12, t13, t14, t15, t2, t3, t4, t5, t6, t7, t8, t9, premise_atom}
-use Rattle.std.proofs.lemmas.List.{length-append}
-use Rattle.std.specs.Ordering.{ordering_reverse}
-use Rattle.dx_model.specs.Following.{CanGo, PrunedAfter, SatisfyAll, frozen_text, underived}
-use Rattle.dx_implies.specs.Frozen.{PassesFrozen, frozen_premise, marks}
-use Rattle.dx_implies.specs.Pruning.{IsPrunedAlways, PassesBeside, PruningPassesLimit}
-use Rattle.dx_schema_text.specs.declared.texts.SourceText.TheVariants as sources
-use Rattle.dx_schema_text.specs.Spelling as spelling
 
 -- ---- what is held
 
@@ -265,8 +265,8 @@ person_clauses : SpellsClauses 1 deepest (ref_clause (reference_of (codes "dept"
 person_clauses =
     spelling.clause_first
     (spelling.a_ref
-      (spelling.ref_of k36 k37 k39 k40 k41 k42 k44 k45 refl refl (spelling.parted (spelling.name_of k38 refl) no_more) refl refl refl refl
-      (spelling.parted (spelling.name_of k43 refl) no_more) refl spelling.not_optional refl))
+    (spelling.ref_of k36 k37 k39 k40 k41 k42 k44 k45 refl refl (spelling.parted (spelling.name_of k38 refl) no_more) refl refl refl refl
+    (spelling.parted (spelling.name_of k43 refl) no_more) refl spelling.not_optional refl))
     spelling.no_clause
 
 person_set : SpellsSet 1 deepest person_tree

@@ -18,7 +18,7 @@ use Rattle.dx_model.specs.Rules.{AreRows, IsMatch, IsRows, exported, premise_fac
 use Rattle.dx_model.specs.Tables.{table_of}
 use Rattle.dx_model.specs.Values.{Conversions, Rows, RowsAscend, Tuple, row_cmp, tuple_cmp}
 use Rattle.dx_model.proofs.RowsExist.{one_rows}
-use Rattle.dx_instance.specs.Stored.{TableRows, facts, rows_of}
+use Rattle.dx_stages.specs.Worlds.{World}
 use Rattle.dx_schema.specs.Forest.{Forest, Tree, none, set}
 use Rattle.dx_schema.specs.Links.{IsFaultless, every_link}
 use Rattle.dx_schema.specs.Tables.{model_tables}
@@ -28,8 +28,8 @@ use Rattle.dx_schema_text.specs.Reading.{tree_of_clauses}
 use Rattle.dx_schema_text.specs.Spelling.{SpellsHead, SpellsSet, SpellsSide}
 use Rattle.dx_schema_text.specs.Spelling as spelling
 use Rattle.dx_schema_text.specs.Texts.{deepest}
+use Rattle.dx_instance.specs.Stored.{TableRows, facts, rows_of}
 use Rattle.dx_csv.specs.Table.{AreTableRecords, IsWholeRecord, table_records}
-use Rattle.dx_stages.specs.Worlds.{World}
 use Rattle.clio_source.specs.Source.{ReadState, SaysSourceFacts, at_start, data_bytes, flat, reading, source_cells, source_stages}
 use Rattle.clio_steps.specs.Steps.{Program}
 use Rattle.clio_top.proofs.Examples.{mark, no_links, number, word}

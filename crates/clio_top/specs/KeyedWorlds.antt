@@ -25,7 +25,9 @@ use Rattle.clio_top.specs.Words.{Word}
 -- departments have their name for a key, and each person's leads to the number of one
 abbrev pub keyed_text : Text
 keyed_text =
-    codes "mapping 1; source { set emp { name, dept; } } target { set dept { id, name; key (name); } set person { name, dept; ref (dept) -> dept (id); } } line emp.dept -> dept.name; line emp.name -> person.name;"
+    codes "mapping 1; source { set emp { name, dept; } } "
+    ++ (codes "target { set dept { id, name; key (name); } set person { name, dept; ref (dept) -> dept (id); } } "
+    ++ codes "line emp.dept -> dept.name; line emp.name -> person.name;")
 
 abbrev pub keyed_entries : List Entry
 keyed_entries = (codes "mapping.clio", keyed_text) ∷ (codes "emp.csv", codes "name,dept\nann,it\nbob,it\n") ∷ []
@@ -72,7 +74,8 @@ KeyedIsWritten =
 -- persons have their name for a key
 abbrev pub clash_text : Text
 clash_text =
-    codes "mapping 1; source { set emp { name, dept; } } target { set person { name, dept; key (name); } } line emp.name -> person.name; line emp.dept -> person.dept;"
+    codes "mapping 1; source { set emp { name, dept; } } target { set person { name, dept; key (name); } } "
+    ++ codes "line emp.name -> person.name; line emp.dept -> person.dept;"
 
 abbrev pub clash_entries : List Entry
 clash_entries = (codes "mapping.clio", clash_text) ∷ (codes "emp.csv", codes "name,dept\nann,hr\nann,it\n") ∷ []
