@@ -60,7 +60,7 @@ use Rattle.clio_ending.specs.Ending.{named_clash}
 use Rattle.clio_steps.specs.Outcomes.{HasNoSolutionIn, IsClashIn}
 use Rattle.clio_steps.specs.Steps.{Program, exchange_input, target_cells, wanted}
 use Rattle.clio_top.specs.declared.command.Command.TheVariants.{Answering, Demonstrating, Exchanging}
-use Rattle.clio_top.specs.KeyedWorlds.{ClashIsRefused, ClashIsThis, IsSmallClash, clash_text, clash_world, exchange_words}
+use Rattle.clio_top.specs.KeyedWorlds.{ClashIsRefused, ClashIsThis, IsSmallClash, clashing_text, clashing_world, exchange_words}
 use Rattle.clio_top.specs.Words.{Word, says}
 use Rattle.clio_top.proofs.Clashes.{no_solution}
 use Rattle.clio_top.proofs.Examples.{ann_ascii, mark, no_links, word}
@@ -75,12 +75,12 @@ emp_bytes = codes "name,dept\nann,hr\nann,it\n"
 abbrev table_held : FileMap
 table_held = from_entries ((codes "emp.csv", emp_bytes) ∷ [])
 
-has_text : clash_world (codes "mapping.clio") ≡ Some clash_text
-has_text = get-insert nat_list_cmp_total table_held (codes "mapping.clio") clash_text (codes "mapping.clio")
+has_text : clashing_world (codes "mapping.clio") ≡ Some clashing_text
+has_text = get-insert nat_list_cmp_total table_held (codes "mapping.clio") clashing_text (codes "mapping.clio")
 
-has_table : clash_world (codes "emp.csv") ≡ Some emp_bytes
+has_table : clashing_world (codes "emp.csv") ≡ Some emp_bytes
 has_table =
-    get-insert nat_list_cmp_total table_held (codes "mapping.clio") clash_text (codes "emp.csv")
+    get-insert nat_list_cmp_total table_held (codes "mapping.clio") clashing_text (codes "emp.csv")
     ∙ get-insert nat_list_cmp_total (from_entries []) (codes "emp.csv") emp_bytes (codes "emp.csv")
 
 -- ---- the tokens of the text
@@ -188,7 +188,7 @@ tokens =
     ∷ c28 ∷ c29 ∷ c30 ∷ c31 ∷ c32 ∷ c33 ∷ c34 ∷ c35 ∷ c36 ∷ c37 ∷ c38 ∷ c39 ∷ c40 ∷ c41
     ∷ c42 ∷ c43 ∷ c44 ∷ c45 ∷ c46 ∷ c47 ∷ []
 
-scanned : scan_of clash_text ≡ record { lexemes = tokens; stop = None }
+scanned : scan_of clashing_text ≡ record { lexemes = tokens; stop = None }
 unfolding scan_from piece_at string_from item_at wide_at
 scanned = refl
 
@@ -242,7 +242,7 @@ spelled =
     spelling.mapping_of {rest = line_item name_line ∷ line_item dept_line ∷ []} t0 t1 t2 refl (spelling.version_one refl) refl emp_side person_side
     (one_more (spelling.a_line name_line_spelled) (one_more (spelling.a_line dept_line_spelled) no_more))
 
-is_text : IsMappingText clash_text said
+is_text : IsMappingText clashing_text said
 is_text = record {
   no_stop = ap (λ (s : Scanned). s.stop) scanned;
   spelled = subst (SpellsMapping deepest said) (sym (ap (λ (s : Scanned). s.lexemes) scanned)) spelled;
@@ -277,7 +277,7 @@ mapping = record { source = emps; target = persons; conditions = []; rules = rul
 rules_are : (P : Program) → AreRulesOf P.list emps persons (name_line ∷ dept_line ∷ []) [] (rule ∷ [])
 rules_are P = record { closed = []; closings = tt; are = refl }
 
-taken : (P : Program) → (taking P.list P.tests).passes clash_world (between_of said) (rule ∷ [])
+taken : (P : Program) → (taking P.list P.tests).passes clashing_world (between_of said) (rule ∷ [])
 taken P =
     let b = between_of said in (
       b,
@@ -301,7 +301,7 @@ taken P =
       ),
     )
 
-accepted : (P : Program) → (accepting P.list P.tests).passes clash_world clash_text mapping
+accepted : (P : Program) → (accepting P.list P.tests).passes clashing_world clashing_text mapping
 accepted P = (said, is_text, (said, (emps_are, refl), (said, (persons_are, refl), (said, (names_free, refl), (rule ∷ [], taken P, refl)))))
 
 -- ---- the rows
@@ -311,7 +311,7 @@ records_are : table_records emp_bytes
 unfolding records_from next_record strip_bom
 records_are = refl
 
-abbrev two : TwoEmps clash_world
+abbrev two : TwoEmps clashing_world
 two = record {
   bytes = emp_bytes;
   held = has_table;
@@ -328,16 +328,16 @@ two = record {
 }
 
 abbrev emp_rows : List TableRows
-emp_rows = rows clash_world two
+emp_rows = rows clashing_world two
 
 abbrev matches : Rows
-matches = tuples clash_world two ∷ []
+matches = tuples clashing_world two ∷ []
 
 few_cells : (convert : Conversions) (found : Rows) → AreRows convert (rule ∷ []) (facts emp_rows) found
     → canonical_cells (rule ∷ []) found ≤ target_cells
 few_cells convert found a =
     subst (λ (r : Rows). canonical_cells (rule ∷ []) r ≤ target_cells)
-    (sym (matches_are clash_world two convert (person_atom ∷ []) found refl a)) (omega arith)
+    (sym (matches_are clashing_world two convert (person_atom ∷ []) found refl a)) (omega arith)
 
 -- ---- there is no solution
 
@@ -351,8 +351,8 @@ name_key = record { left = 0 ∷ []; right = 0 ∷ 1 ∷ [] }
 none_solves : (convert : Conversions) (K : List Fact) → ¬ (IsSolution convert (rule ∷ []) schema (facts emp_rows) K)
 none_solves convert K s =
     let satisfied = s.rules rule (here refl) in
-    let one = satisfied _ (matched_first clash_world two convert (person_atom ∷ [])) in
-    let other = satisfied _ (matched_second clash_world two convert (person_atom ∷ [])) in
+    let one = satisfied _ (matched_first clashing_world two convert (person_atom ∷ [])) in
+    let other = satisfied _ (matched_second clashing_world two convert (person_atom ∷ [])) in
     let same = s.keys (person (codes "hr")) (one.1 person_atom (here refl)) (person (codes "it")) (other.1 person_atom (here refl)) refl name_key (here refl) refl in
     first_byte (ap (λ vs. cell vs 1) same)
   where
@@ -363,24 +363,24 @@ none_solves convert K s =
     first_byte : ¬ (Const (codes "hr") ≡ Const (codes "it"))
     first_byte e = let b : 104 ≡ 105 = ap byte_of e in omega (arith, b)
 
-has_none : (P : Program) → HasNoSolutionIn P clash_world
+has_none : (P : Program) → HasNoSolutionIn P clashing_world
 has_none P = record {
-  text = clash_text;
+  text = clashing_text;
   held = has_text;
   few = omega arith;
   mapping = mapping;
   accepted = accepted P;
   rows = emp_rows;
-  source = is_source clash_world two P;
+  source = is_source clashing_world two P;
   within = few_cells P.apply;
   none = none_solves P.apply;
 }
 
 pub clash_is_refused : ClashIsRefused
 clash_is_refused P words (here e) =
-    no_solution P clash_world words Plain false (ap says (sym e)) (has_none P)
+    no_solution P clashing_world words Plain false (ap says (sym e)) (has_none P)
 clash_is_refused P words (there (here e)) =
-    no_solution P clash_world words Core false (ap says (sym e)) (has_none P)
+    no_solution P clashing_world words Core false (ap says (sym e)) (has_none P)
 clash_is_refused P words (there (there m)) = elim m [ ]
 
 -- ---- which clash it is
@@ -495,7 +495,7 @@ this_clash : (P : Program) (mode : Mode) (k : Clash) (table : Text) (key : List 
     → HasClash P.apply (exchange_input mode (mapping, emp_rows)) k → refusals.Clash k table key column ≡ named_clash persons k
     → IsSmallClash k table key column
 this_clash P mode k table key column h is =
-    let found = matches_are clash_world two P.apply (person_atom ∷ []) h.rows refl h.are in
+    let found = matches_are clashing_world two P.apply (person_atom ∷ []) h.rows refl h.are in
     let clash = subst (λ (r : Rows). IsClash schema (meant mode (rule ∷ []) r) k) found h.clash in
     let place = only_key k.table k.key clash.key in
     let at = subst (λ (m : ℕ). IsClashAt schema (after k.steps (meant mode (rule ∷ []) matches)) (fact_of_row 0 k.left) (fact_of_row 0 k.right) (determination_at schema 0 m) k.column) place.1
@@ -504,27 +504,27 @@ this_clash P mode k table key column h is =
     let two_rows = rows_are k.column k.left k.right (after k.steps (meant mode (rule ∷ []) matches)) part at clash.lesser in
     let names = named_so k table key column is place.0 place.1 two_rows.2 in (two_rows.0, two_rows.1, names.0, names.1, names.2)
 
-text_of : (held : List ℕ) → clash_world (codes "mapping.clio") ≡ Some held → held ≡ clash_text
-text_of held is = same_Some held clash_text (sym is ∙ has_text)
+text_of : (held : List ℕ) → clashing_world (codes "mapping.clio") ≡ Some held → held ≡ clashing_text
+text_of held is = same_Some held clashing_text (sym is ∙ has_text)
 
-mapping_of : (P : Program) (held : List ℕ) (M : Mapping) → clash_world (codes "mapping.clio") ≡ Some held
-    → (accepting P.list P.tests).passes clash_world held M → M ≡ mapping
+mapping_of : (P : Program) (held : List ℕ) (M : Mapping) → clashing_world (codes "mapping.clio") ≡ Some held
+    → (accepting P.list P.tests).passes clashing_world held M → M ≡ mapping
 mapping_of P held M is a =
-    accepting_one P.list P.tests clash_world clash_text M mapping
-    (subst (λ (t : List ℕ). (accepting P.list P.tests).passes clash_world t M) (text_of held is) a) (accepted P)
+    accepting_one P.list P.tests clashing_world clashing_text M mapping
+    (subst (λ (t : List ℕ). (accepting P.list P.tests).passes clashing_world t M) (text_of held is) a) (accepted P)
 
-source_is : (P : Program) (I : List TableRows) → (source_stages P.passes).passes clash_world (wanted mapping) I → I ≡ emp_rows
-source_is P I s = source_one P.passes clash_world (wanted mapping) I emp_rows s (is_source clash_world two P)
+source_is : (P : Program) (I : List TableRows) → (source_stages P.passes).passes clashing_world (wanted mapping) I → I ≡ emp_rows
+source_is P I s = source_one P.passes clashing_world (wanted mapping) I emp_rows s (is_source clashing_world two P)
 
 clash_in : (P : Program) (mode : Mode) (k : Clash) (table : Text) (key : List Text) (column : Text)
-    → IsClashIn P mode clash_world k table key column → IsSmallClash k table key column
+    → IsClashIn P mode clashing_world k table key column → IsSmallClash k table key column
 clash_in P mode k table key column h = of h.mapping (mapping_of P h.text h.mapping h.held h.accepted) h.source h.clash h.named
   where
-    of : (M : Mapping) → M ≡ mapping → (source_stages P.passes).passes clash_world (wanted M) h.rows
+    of : (M : Mapping) → M ≡ mapping → (source_stages P.passes).passes clashing_world (wanted M) h.rows
         → HasClash P.apply (exchange_input mode (M, h.rows)) k → refusals.Clash k table key column ≡ named_clash M.target k
         → IsSmallClash k table key column
     of M is s clash named =
-        let same = subst (λ (N : Mapping). (source_stages P.passes).passes clash_world (wanted N) h.rows) is s in
+        let same = subst (λ (N : Mapping). (source_stages P.passes).passes clashing_world (wanted N) h.rows) is s in
         let of_one = subst (λ (N : Mapping). HasClash P.apply (exchange_input mode (N, h.rows)) k) is clash in
         this_clash P mode k table key column (subst (λ (I : List TableRows). HasClash P.apply (exchange_input mode (mapping, I)) k) (source_is P h.rows same) of_one)
         (named ∙ ap (λ (N : Mapping). named_clash N.target k) is)

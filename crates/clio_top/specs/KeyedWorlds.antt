@@ -72,19 +72,19 @@ KeyedIsWritten =
 -- ---- two departments of one employee
 
 -- persons have their name for a key
-abbrev pub clash_text : Text
-clash_text =
+abbrev pub clashing_text : Text
+clashing_text =
     codes "mapping 1; source { set emp { name, dept; } } target { set person { name, dept; key (name); } } "
     ++ codes "line emp.name -> person.name; line emp.dept -> person.dept;"
 
-abbrev pub clash_entries : List Entry
-clash_entries = (codes "mapping.clio", clash_text) ∷ (codes "emp.csv", codes "name,dept\nann,hr\nann,it\n") ∷ []
+abbrev pub clashing_entries : List Entry
+clashing_entries = (codes "mapping.clio", clashing_text) ∷ (codes "emp.csv", codes "name,dept\nann,hr\nann,it\n") ∷ []
 
-abbrev pub clash_held : FileMap
-clash_held = from_entries clash_entries
+abbrev pub clashing_held : FileMap
+clashing_held = from_entries clashing_entries
 
-abbrev pub clash_world : World
-clash_world n = get clash_held n
+abbrev pub clashing_world : World
+clashing_world n = get clashing_held n
 
 -- an exchange in each mode
 abbrev pub exchange_words : List (List Word)
@@ -101,9 +101,9 @@ abbrev pub ClashIsRefused : Type 0
 ClashIsRefused =
     (P : Program) (words : List Word) → words ∈ exchange_words
     → (k : Clash) × (table : Text) × (key : List Text) × (column : Text)
-    × (run_stages P).refuses clash_world words (refusals.Clash k table key column)
+    × (run_stages P).refuses clashing_world words (refusals.Clash k table key column)
 
 abbrev pub ClashIsThis : Type 0
 ClashIsThis =
     (P : Program) (words : List Word) → words ∈ exchange_words → (k : Clash) (table : Text) (key : List Text) (column : Text)
-    → IsClashOf P clash_world words k table key column → IsSmallClash k table key column
+    → IsClashOf P clashing_world words k table key column → IsSmallClash k table key column
