@@ -2,7 +2,6 @@
 use Rattle.std.proofs.Common.{◌≡◌, ℕ, Result, Ok, Err, Some, None, refl, ap, arith}
 use Rattle.dx_tokens.specs.declared.faults.TextFault.{TextFault}
 use Rattle.dx_tokens.specs.declared.faults.TextFault.TheVariants.{At, TooDeep, Memory}
-use Rattle.dx_tokens.specs.declared.faults.TextKind.{TextKind}
 use Rattle.dx_tokens.specs.declared.faults.TextKind.TheVariants.{Character, Expected, Ended, UnknownName}
 use Rattle.dx_tokens.specs.Judged.{IsFaultBy, stop_fault, Reads}
 
