@@ -6,7 +6,7 @@ use Rattle.std.specs.Char.{encode_utf8}
 use Rattle.std.specs.Str.{chars, is_utf8}
 use Rattle.std.specs.declared.cmp.Ordering.TheVariants.{Less}
 use Rattle.std.proofs.lemmas.Bool.{false≢true}
-use Rattle.std.proofs.lemmas.Str.{is_utf8-from_IsUtf8}
+use Rattle.std.proofs.lemmas.Str.{IsUtf8-from_is_utf8, is_utf8-from_IsUtf8}
 use Rattle.json.specs.Json.{items, members, value}
 use Rattle.json.specs.Lex.{lex, punctuate}
 use Rattle.json.specs.Print.{escape_byte}
@@ -201,6 +201,10 @@ of_marked = refl
 of_two_marks : tree_of (239 ∷ 187 ∷ 191 ∷ 239 ∷ 187 ∷ 191 ∷ small) ≡ None
 unfolding tree_of
 of_two_marks = refl
+
+behind_a_mark : IsDocument (239 ∷ 187 ∷ 191 ∷ codes "[]") (array no_items)
+unfolding tree_of is_utf8 chars encode_utf8
+behind_a_mark = (IsUtf8-from_is_utf8 (codes "[]") refl, refl)
 
 -- bytes that are no UTF-8 are no document
 no_text : (d : Data) → ¬ (IsDocument (91 ∷ 34 ∷ 255 ∷ 34 ∷ 93 ∷ []) d)
