@@ -22,7 +22,7 @@ use Rattle.dx_model.proofs.RowsExist.{from_variable}
 use Rattle.dx_queries.specs.declared.query.Part.{Part}
 use Rattle.dx_queries.specs.declared.query.Query.{Query}
 use Rattle.dx_queries.specs.Queries.{IsAnswer, IsAnswerOf, assigned, fact_said}
-use Rattle.dx_queries.specs.Laws.{AnswersExist, OneAnswerList, WithinOrPasses}
+use Rattle.dx_queries.specs.Laws.{AnswersExist, OneAnswerList, OneCertainList, WithinOrPasses}
 
 -- ---- assignments of some variables by some values
 
@@ -201,6 +201,10 @@ answers_exist widths K q fits =
 
 pub one_list : OneAnswerList
 one_list K q rows others a b =
+    one_ascending tuple_cmp tuple_total rows others a.ascend b.ascend (λ t m. (b.exact t).1 ((a.exact t).0 m)) (λ t m. (a.exact t).1 ((b.exact t).0 m))
+
+pub one_certain_list : OneCertainList
+one_certain_list convert R schema I q rows others a b =
     one_ascending tuple_cmp tuple_total rows others a.ascend b.ascend (λ t m. (b.exact t).1 ((a.exact t).0 m)) (λ t m. (a.exact t).1 ((b.exact t).0 m))
 
 ascending_distinct : (rows : List Tuple) → TuplesAscend rows → Distinct rows
