@@ -58,7 +58,7 @@ no_clash convert R schema I K rows are solution none =
 module _ (convert : Conversions) (a : JudgeInput) where
   reason_so : (why : Why) → IsReason convert a why → ¬ (IsSolution convert a.rules a.schema a.rows a.given)
   reason_so (whys.Rule i k) r s =
-      r.first.fails (places_hold convert a.rules a.rows a.given r.rows r.are s.rules i k r.first.is_there)
+      r.first.fails (places_hold convert a.rules a.rows a.given r.matches r.are s.rules i k r.first.is_there)
   reason_so (whys.Key t k one other c) r s = r.first.fails (determination_holds a.schema a.given s.keys t k r.first.is_there)
   reason_so (whys.Link t row l) r s = r.first.fails (link_holds a.schema a.given s.links t l r.first.is_there)
 
@@ -72,21 +72,21 @@ module _ (convert : Conversions) (a : JudgeInput) where
 
   one_why : (v w : Why) → IsReason convert a v → IsReason convert a w → AreOneWhy v w
   one_why (whys.Rule i k) (whys.Rule j l) p q =
-      let same : q.rows ≡ p.rows = (rows_of_all convert a.rules a.rows q.rows p.rows q.are p.are).0 in
-      one_first (IsPlace a.rules p.rows) (PlaceHolds a.rules p.rows a.given) i k j l p.first
+      let same : q.matches ≡ p.matches = (rows_of_all convert a.rules a.rows q.matches p.matches q.are p.are).0 in
+      one_first (IsPlace a.rules p.matches) (PlaceHolds a.rules p.matches a.given) i k j l p.first
       (subst (λ (rows : Rows). IsFirstFailing (IsPlace a.rules rows) (PlaceHolds a.rules rows a.given) j l) same q.first)
   one_why (whys.Rule i k) (whys.Key t l one other c) p q =
-      absurd (p.first.fails (places_hold convert a.rules a.rows a.given p.rows p.are q.rules_hold i k p.first.is_there))
+      absurd (p.first.fails (places_hold convert a.rules a.rows a.given p.matches p.are q.rules_hold i k p.first.is_there))
   one_why (whys.Rule i k) (whys.Link t row l) p q =
-      absurd (p.first.fails (places_hold convert a.rules a.rows a.given p.rows p.are q.rules_hold i k p.first.is_there))
+      absurd (p.first.fails (places_hold convert a.rules a.rows a.given p.matches p.are q.rules_hold i k p.first.is_there))
   one_why (whys.Key t k one other c) (whys.Rule i l) p q =
-      absurd (q.first.fails (places_hold convert a.rules a.rows a.given q.rows q.are p.rules_hold i l q.first.is_there))
+      absurd (q.first.fails (places_hold convert a.rules a.rows a.given q.matches q.are p.rules_hold i l q.first.is_there))
   one_why (whys.Key t k one other c) (whys.Key u l two more d) p q =
       one_first (HasDetermination a.schema) (DeterminationHolds a.schema a.given) t k u l p.first q.first
   one_why (whys.Key t k one other c) (whys.Link u row l) p q =
       absurd (p.first.fails (determination_holds a.schema a.given q.keys_hold t k p.first.is_there))
   one_why (whys.Link t row l) (whys.Rule i k) p q =
-      absurd (q.first.fails (places_hold convert a.rules a.rows a.given q.rows q.are p.rules_hold i k q.first.is_there))
+      absurd (q.first.fails (places_hold convert a.rules a.rows a.given q.matches q.are p.rules_hold i k q.first.is_there))
   one_why (whys.Link t row l) (whys.Key u k one other c) p q =
       absurd (q.first.fails (determination_holds a.schema a.given p.keys_hold u k q.first.is_there))
   one_why (whys.Link t row l) (whys.Link u other m) p q =
@@ -211,7 +211,7 @@ module _ (convert : Conversions) (list : List Conversion) (source : List Table) 
   verdict_there : (v : Verdict) × IsVerdict convert a v
   verdict_there = elim (rules_or convert a.rules a.rows a.given rows_there.0 rows_there.1) [
     | inl rules ↦ keys_verdict rules
-    | inr w ↦ (verdicts.NotSolution (whys.Rule w.0 w.1), record { rows = rows_there.0; are = rows_there.1; first = w.2 })
+    | inr w ↦ (verdicts.NotSolution (whys.Rule w.0 w.1), record { matches = rows_there.0; are = rows_there.1; first = w.2 })
   ]
 
 pub each_has_verdict : EachHasVerdict

@@ -75,7 +75,7 @@ module _ (convert : Conversions) (R : List Rule) (schema : List Table) (I : List
 
   -- a reason that was found is one
   pub is_reason : ((t : ℕ) → RowsAscend (rows_of G t)) → (w : Why) → IsFirstReason R rows schema G (Some w) → IsReason convert a w
-  is_reason ascend w (inl p) = subst (IsReason convert a) (sym p.2) (record { rows = rows; are = are; first = p.1 })
+  is_reason ascend w (inl p) = subst (IsReason convert a) (sym p.2) (record { matches = rows; are = are; first = p.1 })
   is_reason ascend w (inr k) = key_or_link ascend k.0 w k.1
 
   -- if none was found, it is a solution
