@@ -1,36 +1,35 @@
 -- Facts that move into an instance of values, and their atoms of numbers among its rows of numbers.
-use Rattle.std.proofs.Common.{◌≡◌, ◌↔◌, ◌∙◌, ℕ, zero, suc, ◌+◌, ◌<◌, ◌++◌, take, Bool, true, false, cond, inl, inr, List, [], ◌∷◌, length, get_or, refl, sym, ap, subst, arith, Result, Ok, Err}
+use Rattle.std.proofs.Common.{◌≡◌, ◌↔◌, ◌∙◌, ℕ, ◌+◌, ◌<◌, ◌++◌, take, Bool, true, false, inl, inr, List, [], ◌∷◌, length, get_or, refl, sym, ap, subst, arith, Result, Ok, Err}
 use Rattle.std.specs.Prelude.{IfOk, IsTrue, MatchOption, None, Option, Some, is_some, map, replicate}
 use Rattle.std.specs.List.{AllZip}
 use Rattle.std.specs.declared.alloc.AllocError.{AllocError}
 use Rattle.std.proofs.lemmas.Bool.{cases_Bool, false≢true, true≢false}
 use Rattle.std.proofs.lemmas.List.{get_or-map, get_or_default, length-map, map-append, take_more}
+use Rattle.std.proofs.lemmas.Option.{none-some}
 use Rattle.dx_ports.specs.Members.{◌∈◌, here, there, Each}
 use Rattle.dx_ports.proofs.Lists.{zip_long, zip_push, to_zip, from_zip}
-use Rattle.dx_ports.proofs.Members.{contains_from_in, from_map, in_at, in_flat_map, in_map}
-use Rattle.dx_ports.proofs.Options.{nothing, none_known, no_number}
+use Rattle.dx_ports.proofs.Members.{from_map, in_at, in_flat_map, in_map}
+use Rattle.dx_ports.proofs.Options.{nothing, none_known}
 use Rattle.dx_model.specs.declared.facts.Fact.{Fact}
 use Rattle.dx_model.specs.declared.values.NullId.{NullId}
 use Rattle.dx_model.specs.declared.values.Value.{Value}
 use Rattle.dx_model.specs.declared.values.Value.TheVariants.{Const, Null}
-use Rattle.dx_model.specs.Covers.{same_value}
 use Rattle.dx_model.specs.Instances.{fact_moved, moved, same_null}
 use Rattle.dx_model.specs.Tables.{cell, values_in}
 use Rattle.dx_model.specs.Values.{NullsAscend, null_at}
-use Rattle.dx_model.proofs.Before.{same_value-refl, same_value-true}
 use Rattle.dx_model.proofs.Maps.{same_null-refl, same_null-true}
-use Rattle.dx_instance.specs.Cells.{NumberTable, numbers_at}
+use Rattle.dx_instance.specs.Cells.{NumberTable}
 use Rattle.dx_instance.specs.Numbers.{AreDistinctValues, value_of}
 use Rattle.dx_instance.specs.Shown.{AreBelow, PartsFit, numbers_of_table, shown, shown_row, shown_tables}
 use Rattle.dx_instance.specs.Stored.{TableRows, facts, rows_of, table_at, HasTableIn}
 use Rattle.dx_instance.proofs.NumberFacts.{there_at}
 use Rattle.dx_instance.proofs.ShownFacts.{number_same}
 use Rattle.dx_instance.proofs.StoredFacts.{fact_from_row, fact_table, row_from_fact}
-use Rattle.dx_instance.proofs.ValueNumbers.{number_of, number_at, number_back, row_place}
+use Rattle.dx_instance.proofs.ValueNumbers.{number_of, number_back, row_place}
 use Rattle.dx_blocks.specs.Nulls.{AreKnown, AreNulls}
 use Rattle.dx_blocks.proofs.NullLists.{place_is_one}
 use Rattle.dx_solver.specs.declared.atom.Term.{Term}
-use Rattle.dx_solver.specs.declared.atom.Term.TheVariants.{Number, Variable}
+use Rattle.dx_solver.specs.declared.atom.Term.TheVariants.{Variable}
 use Rattle.dx_solver.specs.declared.atom.PatternAtom.{PatternAtom}
 use Rattle.dx_solver.specs.Questions.{FitsAtom, Solves, HasImageRow, number_under, row_under}
 use Rattle.dx_judge.specs.Asking.{HasStranger, HasStrangerIn, IsStranger, SaysFact, SaysTurned, SaysValue, place_in}
@@ -251,7 +250,7 @@ answer_stands f ts out atoms known n None b e k m d = (
   (λ y. absurd (true≢false (sym y ∙ d))),
   (λ w. absurd (m w.0 (record {
     stands = subst (λ (z : List (List Bool)). Each atoms (HasImageRow ts z w.0)) (sym e) w.1;
-    keeps = λ v x h. absurd (no_number x (sym (ap (λ (l : List (Option ℕ)). get_or l v nothing) k ∙ none_known n v) ∙ h));
+    keeps = λ v x h. absurd (none-some x (sym (ap (λ (l : List (Option ℕ)). get_or l v nothing) k ∙ none_known n v) ∙ h));
   }))),
 )
 answer_stands f ts out atoms known n (Some xs) b e k m d = (

@@ -1,11 +1,10 @@
 -- Facts that move into an instance: without nulls they stand there, and else by blocks.
-use Rattle.std.proofs.Common.{◌≡◌, ◌∙◌, ◌⊎◌, ℕ, suc, ◌+◌, ◌<◌, ◌≤◌, List, [], ◌∷◌, ◌++◌, Bool, inl, inr, refl, sym, ap, subst, arith, length, get_or, take, Option, Some, None, Result, Ok, Err, zero}
-use Rattle.std.specs.Prelude.{map, ◌↔◌, IfOk, IsTrue, slice_get}
+use Rattle.std.proofs.Common.{◌≡◌, ◌∙◌, ◌⊎◌, ℕ, ◌+◌, ◌<◌, ◌≤◌, List, [], ◌∷◌, Bool, inl, inr, refl, sym, ap, subst, arith, length, get_or, take, Result, Ok, Err}
+use Rattle.std.specs.Prelude.{map, ◌↔◌, IfOk, IsTrue}
 use Rattle.std.specs.declared.alloc.AllocError.{AllocError}
-use Rattle.std.proofs.lemmas.List.{append-nil, get_or-map, length-append, length-map, take_more}
-use Rattle.std.proofs.lemmas.Grind.{flat_map-append}
+use Rattle.std.proofs.lemmas.List.{get_or-map, length-map, take_more}
 use Rattle.dx_ports.specs.Members.{◌∈◌, ◌⊆◌, Each, here, there}
-use Rattle.dx_ports.proofs.Members.{from_append, from_map, in_at, in_map, no_longer}
+use Rattle.dx_ports.proofs.Members.{from_append, from_map, in_at, in_map}
 use Rattle.dx_model.specs.declared.facts.Fact.{Fact}
 use Rattle.dx_model.specs.declared.rules.Atom.{Atom}
 use Rattle.dx_model.specs.declared.rules.Rule.{Rule}
@@ -14,7 +13,7 @@ use Rattle.dx_model.specs.declared.values.Value.{Value}
 use Rattle.dx_model.specs.declared.values.Value.TheVariants.{Const, Null}
 use Rattle.dx_model.specs.Values.{Tuple}
 use Rattle.dx_ports.specs.Texts.{Text}
-use Rattle.dx_model.specs.Instances.{MapsInto, Moves, fact_moved, given, moved, nulls_in, values}
+use Rattle.dx_model.specs.Instances.{MapsInto, Moves, fact_moved, given, moved}
 use Rattle.dx_model.specs.Blocks.{IsClosedPart}
 use Rattle.dx_model.specs.Fitting.{AtomsFitWidths}
 use Rattle.dx_model.specs.Rules.{cell_value, exported, fact_of_atom, text_of}

@@ -1,29 +1,27 @@
 -- Facts with their values in another order: they move where the facts move.
-use Rattle.std.proofs.Common.{◌≡◌, ◌↔◌, ◌∙◌, ℕ, zero, suc, ◌+◌, ◌<◌, ◌≤◌, List, [], ◌∷◌, ◌++◌, refl, sym, ap, subst, arith, length, get_or, inl, inr}
+use Rattle.std.proofs.Common.{◌≡◌, ◌↔◌, ◌∙◌, ℕ, suc, ◌+◌, ◌<◌, List, [], ◌∷◌, ◌++◌, refl, sym, ap, subst, arith, length, get_or}
 use Rattle.std.specs.Prelude.{map, slice_index, IsPermutation}
 use Rattle.std.specs.List.{range_with_len}
 use Rattle.std.proofs.lemmas.List.{get_or-map, get_or_default, length-map, map-append}
 use Rattle.std.proofs.lemmas.List.FromFn.{length-range_with_len}
 use Rattle.std.proofs.lemmas.List.Sorted.{Contains-permutation, IsPermutation-sym, length_permutation}
 use Rattle.dx_ports.specs.Members.{◌∈◌, ◌⊆◌, ◌≈◌, here, there, Each}
-use Rattle.dx_ports.proofs.Members.{contains_from_in, from_map, in_at, in_from_contains, in_map, map_agrees, same_equal, same_map, same_trans}
+use Rattle.dx_ports.proofs.Members.{contains_from_in, from_map, in_at, in_from_contains, in_map, map_agrees, same_trans}
 use Rattle.dx_ports.proofs.Ranges.{from_range, range_more, to_range}
 use Rattle.dx_model.specs.declared.facts.Fact.{Fact}
 use Rattle.dx_model.specs.declared.values.NullId.{NullId}
 use Rattle.dx_model.specs.declared.values.Value.{Value}
-use Rattle.dx_model.specs.declared.values.Value.TheVariants.{Const, Null}
+use Rattle.dx_model.specs.declared.values.Value.TheVariants.{Const}
 use Rattle.dx_model.specs.Instances.{Moves, fact_moved, moved}
 use Rattle.dx_model.specs.Tables.{cell, values_in}
-use Rattle.dx_instance.specs.Cells.{NumberTable, numbers_at}
+use Rattle.dx_instance.specs.Cells.{NumberTable}
 use Rattle.dx_instance.specs.Numbers.{value_of}
 use Rattle.dx_instance.specs.Shown.{AreBelow, NumbersFit, PartsFit, NumberRowsFit, numbers_of_table, shown, shown_row, shown_tables}
 use Rattle.dx_instance.specs.Stored.{IsSorting, TableRows, facts, rows_of, table_at, widths, HasTableIn}
-use Rattle.dx_instance.proofs.ShownFacts.{is_shown}
 use Rattle.dx_instance.proofs.StoredFacts.{fact_from_row, fact_table, row_from_fact, sorting_facts}
-use Rattle.dx_blocks.specs.Nulls.{AreKnown}
 use Rattle.dx_judge.specs.Open.{CanMove}
 use Rattle.dx_judge.specs.Turned.{AreOrders, CanTurn, IsTurned, fact_turned, order_at}
-use Rattle.dx_judge.specs.Turning.{AreOrdersOf, AreTablesTurned, IsColumnOrder, IsTableTurned, row_turned}
+use Rattle.dx_judge.specs.Turning.{AreOrdersOf, AreTablesTurned, IsColumnOrder, row_turned}
 
 -- ---- one row
 

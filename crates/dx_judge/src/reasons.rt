@@ -4,8 +4,7 @@ ghost use Rattle.dx_ports.specs.Members.{Each};
 ghost use Rattle.dx_model.specs.Fitting.{AtomsFitWidths};
 ghost use Rattle.dx_model.specs.Matches.{rows_of_matches};
 ghost use Rattle.dx_schema.specs.Tables.{model_tables, schema_widths};
-ghost use Rattle.dx_instance.specs.Stored.{facts, rows_of, widths};
-ghost use Rattle.dx_fails.specs.Shown.{IsBrokenKey, IsLoneRow};
+ghost use Rattle.dx_instance.specs.Stored.{rows_of, widths};
 ghost use Rattle.dx_judge.specs.Open.{AreMatchesOf, IsFirstReason, IsKeyFault, IsKeyOrLink, IsLinkFault};
 
 use crate::opening::first_open;

@@ -1,11 +1,7 @@
-use Rattle.std.proofs.Common.{◌≡◌, ◌∙◌, refl, subst, sym, List, ℕ}
-use Rattle.std.specs.List.{AllZip}
-use Rattle.dx_ports.specs.Members.{Each}
+use Rattle.std.proofs.Common.{refl, sym}
 use Rattle.dx_ports.proofs.Members.{item_in}
 use Rattle.dx_ports.proofs.Options.{some_left, none_left}
-use Rattle.dx_model.specs.declared.values.Value.{Value}
 use Rattle.dx_judge.specs.Asking.{SaysTurned}
-use Rattle.dx_judge.specs.Turned.{CanTurn}
 use Rattle.dx_judge.proofs.Asked.{order_same, zip_more}
 use Rattle.dx_judge.proofs.asking.atoms_of.Goals as goal
 

@@ -1,4 +1,4 @@
-use Rattle.std.proofs.Common.{arith, subst, List}
+use Rattle.std.proofs.Common.{arith, subst}
 use Rattle.dx_ports.specs.Members.{◌∈◌}
 use Rattle.dx_ports.proofs.Members.{in_at, item_in}
 use Rattle.dx_ports.proofs.Options.{some_left, none_left}

@@ -1,7 +1,6 @@
-use Rattle.std.proofs.Common.{sym, subst, ◌∙◌, IfOk}
+use Rattle.std.proofs.Common.{sym, ◌∙◌}
 use Rattle.std.proofs.lemmas.Bool.{false≢true}
-use Rattle.dx_instance.specs.Stored.{TableRows, facts, widths}
-use Rattle.dx_judge.specs.Open.{BlocksMove}
+use Rattle.dx_instance.specs.Stored.{facts}
 use Rattle.dx_judge.proofs.Moves.{ground_stays, maps_answered}
 use Rattle.dx_judge.proofs.mapping.maps_into.Goals as goal
 

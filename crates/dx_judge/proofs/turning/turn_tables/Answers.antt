@@ -1,4 +1,4 @@
-use Rattle.std.proofs.Common.{◌≡◌, ◌∙◌, ap, length, subst, List, ℕ, sym}
+use Rattle.std.proofs.Common.{◌≡◌, ◌∙◌, length, subst, List, ℕ, sym}
 use Rattle.dx_instance.specs.Shown.{numbers_of_table}
 use Rattle.dx_judge.specs.Turned.{order_at}
 use Rattle.dx_judge.proofs.Asked.{order_same}
