@@ -86,10 +86,10 @@ abbrev pub HasKey : List (List ℕ) → Option Key → ℕ → Type 0
 HasKey rows None p = Unit {0}
 HasKey rows (Some k) p = number_in rows k.column p ≡ k.number
 
--- the least place from a on that has it
+-- the least place from a on that has it, or nothing if none from a on has it
 abbrev pub IsNextPlace : List (List ℕ) → Option Key → ℕ → Option ℕ → Type 0
 IsNextPlace rows key a o = MatchOption o ((p : ℕ) → a ≤ p → p < length rows → ¬ (HasKey rows key p))
-    (λ q. (a ≤ q) × (q < length rows) × ((p : ℕ) → a ≤ p → p < q → ¬ (HasKey rows key p)))
+    (λ q. (a ≤ q) × (q < length rows) × HasKey rows key q × ((p : ℕ) → a ≤ p → p < q → ¬ (HasKey rows key p)))
 
 -- no row at a place from a up to b is what the atom becomes by numbers that the domains allow
 abbrev pub NoImage : List NumberTable → List (List Bool) → List Domain → PatternAtom → ℕ → ℕ → Type 0

@@ -17,7 +17,7 @@ loop-place-preserved c =
     let has = rw c.items.ensures at c.first_key-key.ensures in
     record {
       none = no_more (IsImageRow T out xs atom) (HasKey (numbers_of_table T atom.table).rows key) 0 c.loop-place.next
-          c.in-Some.place c.loop-place.invariant.none (λ p i. has_key T out xs atom key p has i) place.2
+          c.in-Some.place c.loop-place.invariant.none (λ p i. has_key T out xs atom key p has i) place.3
           (λ i. absurd (false≢true (sym c.if-is_image.false ∙ c.is_image.ensures.1 i)));
       next = omega (arith, place.1, c.count-count.ensures);
     }

@@ -18,7 +18,7 @@ loop-place-preserved c =
       after = omega (arith, place.0, c.loop-place.invariant.after);
       none = λ f k. no_more (IsImageRow T out f atom) (HasKey (numbers_of_table T atom.table).rows key) c.args.from c.loop-place.next
           c.in-Some.place (c.loop-place.invariant.none f k)
-          (λ p i. has_key T out f atom key p (key_for ds atom.terms f key has k) i) place.2
+          (λ p i. has_key T out f atom key p (key_for ds atom.terms f key has k) i) place.3
           (λ i. absurd (false≢true (sym c.if-is_candidate.false ∙ c.is_candidate.ensures f k i)));
     }
 
@@ -35,7 +35,7 @@ returns-then-is_candidate c =
       place.1,
       (λ f k. no_to (IsImageRow T out f atom) (HasKey (numbers_of_table T atom.table).rows key) c.args.from c.loop-place.next
           c.in-Some.place (c.loop-place.invariant.none f k)
-          (λ p i. has_key T out f atom key p (key_for ds atom.terms f key has k) i) place.2),
+          (λ p i. has_key T out f atom key p (key_for ds atom.terms f key has k) i) place.3),
     )
 
 pub returns : goal.returns
