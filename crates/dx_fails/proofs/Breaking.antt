@@ -8,11 +8,11 @@ use Rattle.dx_model.specs.Tables.{Determination, Table, table_of, values_in, det
 use Rattle.dx_instance.specs.Stored.{TableRows, facts, rows_of}
 use Rattle.dx_instance.specs.Places.{AreFirsts, row_at, value_at}
 use Rattle.dx_holds.specs.Columns.{IsFirstLike, RowsDetermine}
-use Rattle.dx_holds.proofs.Determining.{not_behind}
+use Rattle.dx_holds.proofs.Determining.{DetermineTo, not_behind}
 use Rattle.dx_fails.specs.declared.broken.Apart.{Apart}
 use Rattle.dx_fails.specs.declared.determining.Determines.{Determines}
 use Rattle.dx_fails.specs.Firsts.{DeterminationHolds}
-use Rattle.dx_fails.specs.Shown.{AllIn, IsViolation, IsBrokenIn, as_determination}
+use Rattle.dx_fails.specs.Shown.{AllIn, IsFirstApart, IsViolation, IsBrokenIn, as_determination}
 use Rattle.dx_fails.proofs.Finding.{determination_holds, fact_there, no_determination}
 
 -- ---- one determination
@@ -27,19 +27,20 @@ first_there I t left places p f are h e =
 
 -- a row that differs from the first that has what it has on the left
 pub are_apart : (I : List TableRows) (t : ℕ) (left right : List ℕ) (f n c : ℕ) → n < length (rows_of I t) → IsFirstLike I t left n f
-    → c ∈ right → ¬ (value_at I t f c ≡ value_at I t n c) → IsViolation I t left right (record { left = f; right = n; column = c })
-are_apart I t left right f n c h first m differ = record {
+    → IsFirstApart I t right f n c → DetermineTo I t left right n → IsViolation I t left right (record { left = f; right = n; column = c })
+are_apart I t left right f n c h first apart determine = record {
   in_order = before;
   within = h;
   agree = sym first.3;
-  column = m;
-  differ = differ;
+  first = first;
+  column = apart;
+  before = determine;
 }
   where
     before : f < n
     before = let b = not_behind I t left n f n first refl in elim (cases_lt f n) [
       | inl l ↦ l
-      | inr l ↦ let e : f ≡ n = omega (arith, b, l) in absurd (differ (ap (λ (x : ℕ). value_at I t x c) e))
+      | inr l ↦ let e : f ≡ n = omega (arith, b, l) in absurd (apart.differ (ap (λ (x : ℕ). value_at I t x c) e))
     ]
 
 -- ---- the determinations of a table, as the code lists them
@@ -73,8 +74,8 @@ module _ (schema : List Table) (I : List TableRows) (t : ℕ) (found : List Dete
       table = refl;
       of_table = in_at (table_of schema t).determinations k no_determination there;
       same = subst (λ (x : Determination). values_in x.left (row_at I t a.left) ≡ values_in x.left (row_at I t a.right)) (sym one) (sym apart.agree);
-      column = subst (λ (x : Determination). a.column ∈ x.right) (sym one) apart.column;
-      differ = apart.differ;
+      column = subst (λ (x : Determination). a.column ∈ x.right) (sym one) (rw apart.column.column (in_at d.right.now apart.column.place 0 apart.column.within));
+      differ = apart.column.differ;
     };
   }
     where

@@ -1,5 +1,5 @@
 -- What shows that a determination or a link does not hold, by the places of rows.
-use Rattle.std.specs.Prelude.{◌≡◌, ℕ, ◌<◌, ◌≤◌, ◌^◌, List, [], ◌∷◌, Option, MatchOption, length}
+use Rattle.std.specs.Prelude.{◌≡◌, ℕ, ◌<◌, ◌≤◌, ◌^◌, List, [], ◌∷◌, Option, MatchOption, length, slice_index_or, take}
 use Rattle.dx_ports.specs.Members.{◌∈◌}
 use Rattle.dx_model.specs.declared.facts.Fact.{Fact}
 use Rattle.dx_model.specs.declared.tables.Link.{Link}
@@ -8,7 +8,7 @@ use Rattle.dx_model.specs.Chase.{Break}
 use Rattle.dx_model.specs.Tables.{Determination, Table, values_in, determination_at}
 use Rattle.dx_instance.specs.Stored.{TableRows, facts, rows_of, widths}
 use Rattle.dx_instance.specs.Places.{row_at, value_at, fact_at}
-use Rattle.dx_holds.specs.Columns.{RowsAgree, RowsLead}
+use Rattle.dx_holds.specs.Columns.{IsFirstLike, RowsAgree, RowsLead}
 use Rattle.dx_fails.specs.declared.alone.LoneRow.{LoneRow}
 use Rattle.dx_fails.specs.declared.broken.Apart.{Apart}
 use Rattle.dx_fails.specs.declared.broken.BrokenKey.{BrokenKey}
@@ -47,13 +47,23 @@ pub record AreColumnsWithin (width : ℕ) (d : Determines) : Type 0 where
 abbrev pub as_determination : Determines → Determination
 as_determination d = record { left = d.left.now; right = d.right.now }
 
--- two rows of table t, the lesser first, agree on the left and differ in a column of the right
+-- c is the first of the columns in which the rows at places p and q of table t differ
+pub record IsFirstApart (I : List TableRows) (t : ℕ) (columns : List ℕ) (p q c : ℕ) : Type 0 where
+  pub place : ℕ
+  pub within : place < length columns
+  pub column : c ≡ slice_index_or columns place 0
+  pub differ : ¬ (value_at I t p c ≡ value_at I t q c)
+  pub before : RowsAgree I t p (take place columns) t (take place columns) q
+
+-- Two rows of table t agree on the left and differ on the right, first in this column. The lesser is the first row that
+-- has what it has on the left; of the rows before the greater, those that agree on the left agree on the right.
 pub record IsViolation (I : List TableRows) (t : ℕ) (left right : List ℕ) (a : Apart) : Type 0 where
   pub in_order : a.left < a.right
   pub within : a.right < length (rows_of I t)
   pub agree : RowsAgree I t a.left left t left a.right
-  pub column : a.column ∈ right
-  pub differ : ¬ (value_at I t a.left a.column ≡ value_at I t a.right a.column)
+  pub first : IsFirstLike I t left a.right a.left
+  pub column : IsFirstApart I t right a.left a.right a.column
+  pub before : (p q : ℕ) → p < q → q < a.right → RowsAgree I t p left t left q → RowsAgree I t p right t right q
 
 -- S has one table, with exactly what the rows of table t have in these columns
 pub record AreShadows (I : List TableRows) (t : ℕ) (columns : List ℕ) (S : List TableRows) : Type 0 where

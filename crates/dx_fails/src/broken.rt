@@ -3,10 +3,9 @@ ghost use Rattle.std.specs.Prelude.{◌≡◌, ◌<◌, ℕ, IfOk, MatchOption, 
 ghost use Rattle.dx_ports.specs.Members.{◌∈◌};
 ghost use Rattle.dx_model.specs.Tables.{KeysHold};
 ghost use Rattle.dx_schema.specs.Tables.{model_tables, schema_widths};
-ghost use Rattle.dx_instance.specs.Places.{value_at};
 ghost use Rattle.dx_instance.specs.Stored.{facts, rows_of, table_at, widths};
 ghost use Rattle.dx_holds.specs.Columns.{RowsAgree, RowsDetermine};
-ghost use Rattle.dx_fails.specs.Shown.{AllIn, AreColumnsWithin, IsViolation, IsBrokenIn, IsBrokenKey};
+ghost use Rattle.dx_fails.specs.Shown.{AllIn, AreColumnsWithin, IsFirstApart, IsViolation, IsBrokenIn, IsBrokenKey};
 
 use crate::determining::{Determines, all_columns, determinations};
 use dx_instance::Instance;
@@ -38,7 +37,7 @@ fn differing(instance: &Instance, table: u32, columns: &[u32], left: u32, right:
     requires left { left < length (rows_of instance.now table) }
     requires right { right < length (rows_of instance.now table) }
     ensures { MatchOption result (RowsAgree instance.now table left columns.now table columns.now right)
-        (λ c. (c ∈ columns.now) × ¬ (value_at instance.now table left c ≡ value_at instance.now table right c)) }
+        (IsFirstApart instance.now table columns.now left right) }
 {
     for column in columns {
         let value = instance.cell(table, left, *column);

@@ -13,8 +13,7 @@ pub returns-in-Some : goal.returns-in-Some
 returns-in-Some c =
     let h = rw c.count-place-end.ensures at c.loop-place-test.true in
     let first = first_there c.args.instance.now c.args.table c.args.columns.now.left.now c.in_ok-firsts.firsts.items c.loop-place.place c.index-first.result.now c.in_ok-firsts.ensures h c.index-first.ensures in
-    let found = c.in-Some.ensures in
-    are_apart c.args.instance.now c.args.table c.args.columns.now.left.now c.args.columns.now.right.now c.index-first.result.now c.loop-place.place c.in-Some.column h first found.0 found.1
+    are_apart c.args.instance.now c.args.table c.args.columns.now.left.now c.args.columns.now.right.now c.index-first.result.now c.loop-place.place c.in-Some.column h first c.in-Some.ensures c.loop-place.invariant
 
 pub loop-place-preserved : goal.loop-place-preserved
 loop-place-preserved c =

@@ -1,4 +1,4 @@
-use Rattle.std.proofs.Common.{◌∙◌, arith, sym}
+use Rattle.std.proofs.Common.{◌∙◌, arith, refl, sym}
 use Rattle.std.proofs.lemmas.Bool.{true≢false}
 use Rattle.dx_ports.proofs.Members.{in_at}
 use Rattle.dx_holds.proofs.Agreeing.{row_has_table}
@@ -17,7 +17,10 @@ pub cell-requires-clause-column : goal.cell-requires-clause-column
 cell-requires-clause-column c = c.requires.columns _ (in_at c.args.columns.now c.loop-column.column-index 0 (omega arith))
 
 pub returns-then-not-is : goal.returns-then-not-is
-returns-then-not-is c = (
-  in_at c.args.columns.now c.loop-column.column-index 0 (omega arith),
-  (λ e. true≢false (sym (c.is.ensures.1 (c.cell.ensures ∙ (sym e ∙ sym c.cell-value.ensures))) ∙ c.if-not-is.true)),
-)
+returns-then-not-is c = record {
+  place = c.loop-column.column-index;
+  within = omega arith;
+  column = refl;
+  differ = λ e. true≢false (sym (c.is.ensures.1 (c.cell.ensures ∙ (sym e ∙ sym c.cell-value.ensures))) ∙ c.if-not-is.true);
+  before = c.loop-column.invariant;
+}
