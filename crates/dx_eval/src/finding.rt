@@ -14,13 +14,13 @@ ghost use Rattle.dx_eval.specs.Evaluating.{cells_for, inserted_cells, script_cel
 ghost use Rattle.dx_eval.specs.Finding.{AreFoundSteps, IsFoundUpTo, IsEvalRefusal, MatchesFit, MatchingFits, matching_in, matchings};
 
 use crate::fault::EvalFault;
-use crate::found::Found;
 use crate::matching::step_rows;
 use crate::source::Source;
 use dx_funcs::Meaning;
 use dx_instance::{Rows, Symbols};
 use dx_ports::{Count, Items, Limit, Text};
 use dx_script::Step;
+use dx_tgd::Found;
 use std::alloc::{AllocError, Global};
 
 // How many cells a step inserts for each tuple of a rule.

@@ -17,13 +17,13 @@ ghost use Rattle.dx_script.specs.declared.form.Step.TheVariants.{InsertRows};
 ghost use Rattle.dx_script.specs.Meaning.{IsInserted, inserted};
 ghost use Rattle.dx_eval.specs.Inserting.{CellsFitTable, HasNoFacts, InsertStands, OutStands, StepsStand, facts_by, placed_fact};
 
-use crate::builder::Builder;
 use crate::keeping::stay_places;
 use crate::names::table_number;
 use crate::rule_tables::RuleTables;
 use dx_instance::{NullId, Rows, Value};
 use dx_schema::Schema;
 use dx_script::{Out, Step};
+use dx_tgd::Builder;
 use std::alloc::{AllocError, Global};
 
 // The number of what an insert puts into a column, for the row at a place of a rule.
@@ -108,6 +108,9 @@ fn insert_places(
             &mut buffer,
             target,
         )?;
+        if !target.has_room(table) {
+            return Err(AllocError);
+        }
         target.add(table, &buffer)?;
     }
     Ok(())

@@ -10,10 +10,8 @@
 //! tests compare (`keys`).
 #![tactic(auto)]
 
-mod builder;
 mod fault;
 mod finding;
-mod found;
 mod inserting;
 mod keeping;
 mod keys;

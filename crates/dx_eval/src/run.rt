@@ -10,10 +10,8 @@ ghost use Rattle.dx_script.specs.Fits.{FitsScript};
 ghost use Rattle.dx_eval.specs.Evaluating.{IsMade};
 ghost use Rattle.dx_eval.specs.Finding.{IsEvalRefusal};
 
-use crate::builder::Builder;
 use crate::fault::EvalFault;
 use crate::finding::found_steps;
-use crate::found::Found;
 use crate::inserting::insert_all;
 use crate::made::Made;
 use crate::source::Source;
@@ -22,7 +20,7 @@ use dx_instance::Instance;
 use dx_ports::{Items, Text};
 use dx_schema::Schema;
 use dx_script::Script;
-use dx_tgd::matches_of;
+use dx_tgd::{Builder, Found, matches_of};
 use std::alloc::{AllocError, Global};
 
 /// What a script makes of the rows of a source: exactly the matches and the facts that it means, in tables whose rows ascend.

@@ -1,25 +1,25 @@
 // Rows of numbers for each table, before they are put in order.
-ghost use Rattle.std.specs.Prelude.{◌≡◌, ◌<◌, ◌≤◌, ◌-◌, ◌^◌, [], ◌∷◌, IfOk, OnOk, length};
+ghost use Rattle.std.specs.Prelude.{◌≡◌, ◌↔◌, ◌<◌, ◌≤◌, ◌-◌, ◌^◌, [], ◌∷◌, IfOk, IsTrue, OnOk, length};
 ghost use Rattle.std.specs.List.{AllZip};
 ghost use Rattle.dx_ports.specs.Members.{◌∈◌, Each};
 ghost use Rattle.dx_model.specs.Rules.{exported as exported_of};
-ghost use Rattle.dx_instance.specs.Numbers.{Extends};
+ghost use Rattle.dx_instance.specs.Numbers.{AreDistinctValues, Extends, value_of};
 ghost use Rattle.dx_instance.specs.Shown.{shown_row};
-ghost use Rattle.dx_instance.specs.Stored.{IsSorting, without_rows};
+ghost use Rattle.dx_instance.specs.Stored.{IsSorting, rows_of, without_rows};
 ghost use Rattle.dx_tgd.specs.Asked.{HasRoomFor};
 ghost use Rattle.dx_tgd.specs.Gained.{GainsFacts};
 ghost use Rattle.dx_tgd.specs.Planned.{IsPlannedAtom, built};
 
 use crate::planned::PlannedAtom;
 use crate::planning::planned_atoms;
-use dx_instance::{Instance, Rows, Symbols};
+use dx_instance::{Instance, Rows, Symbols, Value};
 use dx_model::Rule;
 use std::alloc::{AllocError, Global};
 use std::marker::Model;
 
-/// Symbols, and for each table rows of their numbers.
+/// Symbols, and for each table rows of their numbers, of which an instance is made.
 #[derive(Drop)]
-pub(crate) struct Builder {
+pub struct Builder {
     symbols: Symbols,
     tables: Vec<Rows>,
 }
@@ -38,11 +38,11 @@ impl Model for Builder {
 
 impl Builder {
     /// No rows, in tables of these widths.
-    pub(crate) fn new(
-        alloc: Global,
-        symbols: Symbols,
-        widths: &[u32],
-    ) -> Result<Builder, AllocError>
+    ///
+    /// # Errors
+    ///
+    /// `AllocError` if there is no memory.
+    pub fn new(alloc: Global, symbols: Symbols, widths: &[u32]) -> Result<Builder, AllocError>
         requires { Each widths.now (λ w. 1 ≤ w) }
         ensures symbols { IfOk result (λ b. b.symbols ≡ symbols) }
         ensures empty { IfOk result (λ b. built b ≡ without_rows widths.now) }
@@ -52,6 +52,30 @@ impl Builder {
             tables.push(Rows::new(alloc, *width))?;
         }
         Ok(Builder { symbols, tables })
+    }
+
+    /// The symbols, lent.
+    pub fn symbols(&self) -> &Symbols
+        ensures same { result.now ≡ self.now.symbols }
+        ensures apart { AreDistinctValues result.now }
+    {
+        // The call tells that no value has two numbers.
+        let _few = self.symbols.len();
+        &self.symbols
+    }
+
+    /// The number of a value, which goes last if it is new.
+    ///
+    /// # Errors
+    ///
+    /// `AllocError` if there is no memory, or no number is left.
+    pub fn number(&mut self, value: Value) -> Result<u32, AllocError>
+        ensures within { IfOk result (λ n. n < length self.new.symbols) }
+        ensures number { IfOk result (λ n. value_of self.new.symbols n ≡ value) }
+        ensures grows { Extends self.old.symbols self.new.symbols }
+        ensures same { built self.new ≡ built self.old }
+    {
+        Ok(self.symbols.intern(value)? as u32)
     }
 
     /// The plan of a rule's conclusion, for so many places. Its literals and nulls become symbols.
@@ -79,8 +103,20 @@ impl Builder {
         )
     }
 
+    /// Whether a table has room for a row more.
+    pub fn has_room(&self, table: u32) -> bool
+        requires { table < length (built self.now) }
+        ensures { IsTrue result ↔ (length (rows_of (built self.now) table) < 2 ^ 32 - 1) }
+    {
+        self.tables[table as usize].count() < u32::MAX
+    }
+
     /// One row of numbers more.
-    pub(crate) fn add(&mut self, table: u32, numbers: &[u32]) -> Result<(), AllocError>
+    ///
+    /// # Errors
+    ///
+    /// `AllocError` if there is no memory.
+    pub fn add(&mut self, table: u32, numbers: &[u32]) -> Result<(), AllocError>
         requires { HasRoomFor self.old table numbers.now }
         ensures symbols { OnOk result (self.new.symbols ≡ self.old.symbols) }
         ensures added { OnOk result (GainsFacts (built self.old) (built self.new)
@@ -90,7 +126,11 @@ impl Builder {
     }
 
     /// The instance of these rows, which ascend, each once.
-    pub(crate) fn finish(self, alloc: Global) -> Result<Instance, AllocError>
+    ///
+    /// # Errors
+    ///
+    /// `AllocError` if there is no memory.
+    pub fn finish(self, alloc: Global) -> Result<Instance, AllocError>
         requires { length (built self) < 2 ^ 32 - 1 }
         ensures { IfOk result (IsSorting (built self)) }
     {

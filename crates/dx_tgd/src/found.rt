@@ -11,11 +11,11 @@ ghost use Rattle.dx_tgd.specs.Found.{IsRenumbering};
 use dx_instance::{Ordered, Rows, Symbols};
 use std::alloc::{AllocError, Global};
 
-/// Symbols, and for each rule rows of their numbers.
+/// Symbols, and rows of their numbers in some tables.
 #[derive(Drop)]
-pub(crate) struct Found {
-    pub(crate) symbols: Symbols,
-    pub(crate) tables: Vec<Rows>,
+pub struct Found {
+    pub symbols: Symbols,
+    pub tables: Vec<Rows>,
 }
 
 // The rows under the ranks of their numbers, ascending.
@@ -26,7 +26,7 @@ fn ranked(alloc: Global, rows: &Rows, ranks: &[u32]) -> Result<Rows, AllocError>
     rows.renumbered(alloc, ranks)?.in_order(alloc)
 }
 
-// The same for the rows of each rule.
+// The same for each table.
 fn all_ranked(alloc: Global, tables: &[Rows], ranks: &[u32]) -> Result<Vec<Rows>, AllocError>
     requires { Each tables.now (λ t. Each t.rows (AreBelow (length ranks.now))) }
     ensures { IfOk result (λ v. AllZip (λ t u. IsOrderOf (renumbered ranks.now t) u) tables.now v.items) }
@@ -58,8 +58,12 @@ pub(crate) fn one_in_order(
 }
 
 impl Found {
-    /// The same tuples for each rule, as rows that ascend under symbols that do.
-    pub(crate) fn in_order(self, alloc: Global) -> Result<Found, AllocError>
+    /// The same tuples in each table, as rows that ascend under symbols that do.
+    ///
+    /// # Errors
+    ///
+    /// `AllocError` if there is no memory.
+    pub fn in_order(self, alloc: Global) -> Result<Found, AllocError>
         requires ascend { Each self.tables.items (λ t. NumbersAscend t.rows) }
         requires texts { Each self.tables.items (λ t. Each t.rows (AreTexts self.symbols)) }
         ensures ascend { IfOk result (λ f. ValuesAscend f.symbols) }

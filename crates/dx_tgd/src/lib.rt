@@ -7,8 +7,9 @@
 //! The law `nulls_have_places`: each null of the canonical instance names a rule and a place that are there.
 //!
 //! Matches are rows of numbers from beginning to end (`found`, `RuleMatches`); a `Tuple` lends the texts for which such a row
-//! stands, and `matches_of` copies them. The other calls on rules are named here too: closing a rule, printing it, and whether
-//! an instance satisfies rules, keys and links.
+//! stands, and `matches_of` copies them. `Found::in_order` gives such rows the order of their texts, and a `Builder` collects them
+//! for the tables of an instance. The other calls on rules are named here too: closing a rule, printing it, and whether an
+//! instance satisfies rules, keys and links.
 #![tactic(auto)]
 
 mod builder;
@@ -27,10 +28,12 @@ mod texts;
 mod tuple;
 mod variables;
 
+pub use builder::Builder;
 pub use dx_closing::{CloseFault, close};
 pub use dx_holds::{Room, keys_hold, links_hold, satisfied};
 pub use dx_rule_text::print_rule;
 pub use fault::CanonFault;
+pub use found::Found;
 pub use laws::nulls_have_places;
 pub use made::Made;
 pub use matching::match_rows;

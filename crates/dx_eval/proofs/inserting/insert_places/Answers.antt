@@ -1,4 +1,4 @@
-use Rattle.std.proofs.Common.{◌≡◌, ◌∙◌, ◌∷◌, [], ℕ, length, get_or, subst, ap, arith, List, map}
+use Rattle.std.proofs.Common.{◌≡◌, ◌∙◌, ◌<◌, ◌∷◌, [], ℕ, length, get_or, subst, ap, arith, List, map}
 use Rattle.std.proofs.lemmas.List.{get_or_default}
 use Rattle.dx_ports.proofs.Members.{in_at}
 use Rattle.dx_instance.proofs.ShownFacts.{extends_both}
@@ -26,21 +26,24 @@ fill-requires-clause-texts c =
     (row_there c.args.target.now.symbols c.args.at.now.rows.now.rows (get_or c.args.at.now.places.now c.loop-place.place-index 0) c.row.result.now c.requires.texts
     (c.args.at.now.within _ (in_at c.args.at.now.places.now c.loop-place.place-index 0 c.loop-place-test.true)) c.row.ensures.row)
 
-pub add-requires-clause-table : goal.add-requires-clause-table
-add-requires-clause-table c =
+pub has_room-requires : goal.has_room-requires
+has_room-requires c =
     let e = long_tables (built c.args.target.now) (built c.fill.new.target) (ap (λ (I : List TableRows). widths I) c.in_ok-fill.ensures.same ∙ c.loop-place.invariant.gains.widths_stay) in
     omega (arith, e, c.requires.cells.table_there)
 
-pub add-requires-clause-width : goal.add-requires-clause-width
-add-requires-clause-width c =
+pub add-requires : goal.add-requires
+add-requires c =
     let w = ap (λ (I : List TableRows). widths I) c.in_ok-fill.ensures.same ∙ c.loop-place.invariant.gains.widths_stay in
     let e = long_tables (built c.args.target.now) (built c.fill.new.target) w in
-    ap length c.deref.ensures.value
-    ∙ (long_shown c.fill.new.target.symbols c.fill.new.buffer.items (inserted c.args.at.now.rule (get_or c.args.at.now.places.now c.loop-place.place-index 0) (texts_of c.loop-place.target.symbols c.row.result.now)) c.args.cells.now c.in_ok-fill.ensures.shown
-    ∙ (c.requires.cells.many ∙ wide_as (built c.args.target.now) (built c.fill.new.target) c.args.table w (omega (arith, e, c.requires.cells.table_there))))
-
-pub add-requires-clause-below : goal.add-requires-clause-below
-add-requires-clause-below c = rw c.deref.ensures.value c.in_ok-fill.ensures.below
+    let there : c.args.table < length (built c.fill.new.target) = omega (arith, e, c.requires.cells.table_there) in
+    record {
+      table_there = there;
+      width = ap length c.deref.ensures.value
+          ∙ (long_shown c.fill.new.target.symbols c.fill.new.buffer.items (inserted c.args.at.now.rule (get_or c.args.at.now.places.now c.loop-place.place-index 0) (texts_of c.loop-place.target.symbols c.row.result.now)) c.args.cells.now c.in_ok-fill.ensures.shown
+          ∙ (c.requires.cells.many ∙ wide_as (built c.args.target.now) (built c.fill.new.target) c.args.table w (omega (arith, e, c.requires.cells.table_there))));
+      below = rw c.deref.ensures.value c.in_ok-fill.ensures.below;
+      room = c.has_room.ensures.0 c.if-not-has_room.false;
+    }
 
 pub loop-place-preserved : goal.loop-place-preserved
 loop-place-preserved c =

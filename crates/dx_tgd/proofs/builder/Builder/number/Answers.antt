@@ -2,7 +2,7 @@ use Rattle.std.proofs.Common.{◌∙◌, ap}
 use Rattle.dx_instance.specs.Shown.{NumberedInstance}
 use Rattle.dx_instance.proofs.ShownFacts.{grown_fitting}
 use Rattle.dx_tgd.specs.Planned.{built}
-use Rattle.dx_eval.proofs.builder.Builder.number.Goals as goal
+use Rattle.dx_tgd.proofs.builder.Builder.number.Goals as goal
 
 pub returns-clause-same : goal.returns-clause-same
 returns-clause-same c =
