@@ -4,8 +4,6 @@ use Rattle.dx_ports.specs.Members.{◌∈◌}
 use Rattle.dx_ports.specs.declared.file.Count.TheVariants.{TargetCells}
 use Rattle.dx_ports.specs.Texts.{Text}
 use Rattle.dx_model.specs.declared.facts.Fact.{Fact}
-use Rattle.dx_model.specs.declared.matches.Places.{Places}
-use Rattle.dx_model.specs.declared.matches.Matches.{Matches}
 use Rattle.dx_model.specs.Values.{Tuple, Rows}
 use Rattle.dx_model.specs.Covers.{below}
 use Rattle.dx_model.specs.Matches.{rows_of_matches}

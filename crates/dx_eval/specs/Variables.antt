@@ -7,7 +7,6 @@ use Rattle.dx_model.specs.Covers.{below}
 use Rattle.dx_schema.specs.Names.{TableNames}
 use Rattle.dx_script.specs.declared.form.CellRef.{CellRef}
 use Rattle.dx_script.specs.declared.form.Equal.{Equal}
-use Rattle.dx_script.specs.Fits.{CellFits}
 use Rattle.dx_script.specs.Names.{column_named, table_named, table_numbered}
 use Rattle.dx_script.specs.Meaning.{alias_cell_text, table_of_alias}
 

@@ -1,5 +1,5 @@
 // A match step as a premise, derived variables and shown variables.
-ghost use Rattle.std.specs.Prelude.{◌≡◌, ◌<◌, ◌^◌, ◌+◌, IfOk, map};
+ghost use Rattle.std.specs.Prelude.{◌≡◌, ◌<◌, ◌^◌, IfOk, map};
 ghost use Rattle.dx_ports.specs.Members.{◌∈◌, Each};
 ghost use Rattle.dx_model.specs.declared.rules.Cell.TheVariants.{Var};
 ghost use Rattle.dx_schema.specs.Names.{table_names_of};

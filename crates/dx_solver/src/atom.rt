@@ -1,5 +1,5 @@
 // Atoms: rows with variables.
-ghost use Rattle.std.specs.Prelude.{◌≡◌, ◌++◌, ◌∷◌, [], OnErr, OnOk, length};
+ghost use Rattle.std.specs.Prelude.{◌≡◌, ◌++◌, ◌∷◌, [], OnErr, OnOk};
 
 use smallvec::SmallVec;
 use std::alloc::{AllocError, Global};

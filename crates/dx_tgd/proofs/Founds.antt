@@ -1,12 +1,11 @@
 -- Rows that are found for rules: as symbols grow, in order, and how many they are.
-use Rattle.std.proofs.Common.{◌≡◌, ◌↔◌, ◌∙◌, ℕ, zero, suc, ◌+◌, ◌*◌, ◌/◌, ◌-◌, ◌<◌, ◌≤◌, ◌⊎◌, List, [], ◌∷◌, ◌++◌, true, inl, inr, refl, sym, ap, subst, arith, length, get_or, take}
+use Rattle.std.proofs.Common.{◌≡◌, ◌∙◌, ℕ, zero, suc, ◌+◌, ◌*◌, ◌/◌, ◌-◌, ◌<◌, ◌≤◌, List, [], ◌∷◌, ◌++◌, true, refl, sym, ap, subst, arith, length, get_or, take}
 use Rattle.std.specs.Prelude.{Err, IfOk, MatchOption, None, Ok, Option, Result, Some, map, slice_get, slice_index}
 use Rattle.std.specs.List.{AllZip}
-use Rattle.std.specs.declared.cmp.Ordering.TheVariants.{Less}
 use Rattle.std.proofs.lemmas.List.{append-nil, length-append, length-map, take_more}
 use Rattle.std.proofs.Math.Nat.{div-lt_iff_lt-mul, mul-le-mul, mul-le-mul_right}
 use Rattle.dx_ports.specs.Members.{◌∈◌, ◌⊆◌, here, there, Distinct, Each}
-use Rattle.dx_ports.proofs.Members.{contains_from_in, from_map, in_at, in_map, no_longer}
+use Rattle.dx_ports.proofs.Members.{from_map, in_map, no_longer}
 use Rattle.std.specs.declared.alloc.AllocError.{AllocError}
 use Rattle.dx_ports.proofs.Lists.{zip_push}
 use Rattle.dx_model.specs.declared.facts.Fact.{Fact}
@@ -14,15 +13,15 @@ use Rattle.dx_model.specs.declared.matches.Places.{Places}
 use Rattle.dx_model.specs.declared.rules.Atom.{Atom}
 use Rattle.dx_model.specs.declared.rules.Rule.{Rule}
 use Rattle.dx_model.specs.declared.values.Value.{Value}
-use Rattle.dx_model.specs.Values.{Conversions, Rows, Tuple, tuple_cmp}
+use Rattle.dx_model.specs.Values.{Conversions, Rows, Tuple}
 use Rattle.dx_model.specs.Fitting.{AtomsFitWidths, IsRule}
-use Rattle.dx_model.specs.Rules.{TuplesAscend, AreRows, IsRows, cells_of, exported}
+use Rattle.dx_model.specs.Rules.{AreRows, IsRows, cells_of, exported}
 use Rattle.dx_model.proofs.RowsExist.{rows_exist}
 use Rattle.dx_instance.specs.Cells.{IsOrderOf, NumberTable, NumbersAscend}
 use Rattle.dx_instance.specs.Numbers.{AreDistinctValues, Extends, IsOrdering, ValuesAscend, value_of}
 use Rattle.dx_instance.specs.Shown.{AreBelow, renumbered}
 use Rattle.dx_instance.proofs.ShownFacts.{extends_both}
-use Rattle.dx_joins.specs.Shown.{AreTexts, IsMatchTuple, MoreTuples, StandFor, is_text, texts_of}
+use Rattle.dx_joins.specs.Shown.{AreTexts, StandFor, is_text, texts_of}
 use Rattle.dx_instance.specs.Ranks.{text_of_value}
 use Rattle.dx_instance.proofs.SortFacts.{distinct_numbers}
 use Rattle.dx_joins.proofs.Translating.{distinct_texts}
@@ -30,7 +29,7 @@ use Rattle.dx_joins.proofs.Whole.{stand_grow}
 use Rattle.dx_tgd.specs.Counting.{canonical_cells}
 use Rattle.dx_tgd.specs.Found.{AreFoundRules, IsFoundRule, IsRenumbering, IsTuple, MoreCells}
 use Rattle.dx_tgd.specs.Placed.{HasCell}
-use Rattle.dx_tgd.specs.Texts.{FitRule, FitRules, tuples_in}
+use Rattle.dx_tgd.specs.Texts.{FitRules, tuples_in}
 use Rattle.dx_tgd.proofs.Ascending.{tuples_ascend}
 use Rattle.dx_tgd.proofs.Steps.{tuples_grown}
 

@@ -1,23 +1,19 @@
 -- The rows of a rule from the tuples that are shown.
-use Rattle.std.proofs.Common.{◌↔◌, ◌⊎◌, ◌∙◌, ◌<◌, ◌-◌, ◌^◌, ◌∷◌, ℕ, zero, suc, cond, List, [], true, false, inl, inr, refl, sym, subst, arith, get_or, slice_get}
-use Rattle.std.specs.Prelude.{map, flat_map}
+use Rattle.std.proofs.Common.{◌⊎◌, ◌∙◌, ◌<◌, ◌∷◌, ℕ, suc, List, [], inl, inr, sym, subst, arith}
+use Rattle.std.specs.Prelude.{flat_map}
 use Rattle.std.proofs.lemmas.Bool.{cases_eq}
-use Rattle.dx_ports.specs.Members.{◌∈◌, here, there, Each}
-use Rattle.dx_ports.proofs.Members.{from_flat_map, in_at}
-use Rattle.dx_model.specs.declared.facts.Fact.{Fact}
-use Rattle.dx_model.specs.declared.values.Value.{Value}
+use Rattle.dx_ports.specs.Members.{◌∈◌, here, there}
+use Rattle.dx_ports.proofs.Members.{from_flat_map}
 use Rattle.dx_model.specs.declared.rules.Cell.{Cell}
 use Rattle.dx_model.specs.declared.rules.Cell.TheVariants.{Var}
 use Rattle.dx_model.specs.declared.rules.Rule.{Rule}
-use Rattle.dx_model.specs.Values.{Conversions}
 use Rattle.dx_model.specs.Fitting.{AtomsFitWidths, IsRule, ByFirstAppearance, cell_variable}
-use Rattle.dx_model.specs.Rules.{TuplesAscend, IsRows, after_cells, cells_of, exported}
+use Rattle.dx_model.specs.Rules.{after_cells, cells_of, exported}
 use Rattle.dx_model.proofs.Canonical.{from_variables}
 use Rattle.dx_model.proofs.Frozen.{few_in_cells, few_numbered}
 use Rattle.dx_model.proofs.RowsExist.{from_variable}
 use Rattle.dx_model.proofs.Cells.{variables_few}
-use Rattle.dx_joins.specs.Shown.{AreTexts, FitsMatching, IsMatchTuple, StandFor, is_text, texts_of}
-use Rattle.dx_instance.specs.Numbers.{value_of}
+use Rattle.dx_joins.specs.Shown.{FitsMatching}
 
 pub numbered_in : (n m : ℕ) (xs : List ℕ) → ByFirstAppearance n xs m → (x : ℕ) → x < m → (x < n) ⊎ (x ∈ xs)
 numbered_in n m [] e x h = inl (omega (arith, h, e))

@@ -1,7 +1,5 @@
 -- The canonical cells.
-use Rattle.std.specs.Prelude.{◌+◌, ◌*◌, ℕ, List, [], ◌∷◌, length, map}
-use Rattle.dx_model.specs.declared.matches.Places.{Places}
-use Rattle.dx_model.specs.declared.matches.Matches.{Matches}
+use Rattle.std.specs.Prelude.{◌+◌, ◌*◌, ℕ, List, [], ◌∷◌, length}
 use Rattle.dx_model.specs.declared.rules.Rule.{Rule}
 use Rattle.dx_model.specs.Values.{Rows}
 use Rattle.dx_model.specs.Rules.{cells_of}

@@ -1,5 +1,5 @@
 // How many matches a limit on canonical cells leaves room for.
-ghost use Rattle.std.specs.Prelude.{◌≡◌, ◌<◌, ◌≤◌, ◌^◌, ◌+◌, length};
+ghost use Rattle.std.specs.Prelude.{◌≡◌, ◌<◌, ◌^◌, length};
 ghost use Rattle.dx_model.specs.Rules.{cells_of};
 
 use dx_model::Rule;

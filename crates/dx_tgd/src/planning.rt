@@ -1,11 +1,10 @@
 // Conclusions are planned: which number stands where.
-ghost use Rattle.std.specs.Prelude.{◌≡◌, ◌<◌, ◌^◌, ℕ, IfOk, OnOk, length};
+ghost use Rattle.std.specs.Prelude.{◌≡◌, ◌<◌, ℕ, IfOk, length};
 ghost use Rattle.std.specs.Bool.{OnTrue};
 ghost use Rattle.std.specs.List.{AllZip};
 ghost use Rattle.std.specs.declared.cmp.Ordering.TheVariants.{Less};
 ghost use Rattle.dx_ports.specs.Members.{◌∈◌, Each};
 ghost use Rattle.dx_model.specs.Values.{value_cmp};
-ghost use Rattle.dx_model.specs.Rules.{exported as exported_of};
 ghost use Rattle.dx_model.specs.declared.rules.Cell.TheVariants.{Var};
 ghost use Rattle.dx_instance.specs.Numbers.{Extends, value_of};
 ghost use Rattle.dx_tgd.specs.Planned.{AreNullNumbers, IsVariableColumn, IsCellPlan, IsPlannedAtom};

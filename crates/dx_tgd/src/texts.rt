@@ -1,5 +1,5 @@
 // The texts for which rows of numbers stand.
-ghost use Rattle.std.specs.Prelude.{◌≡◌, ◌++◌, ℕ, IfOk, OnOk, map};
+ghost use Rattle.std.specs.Prelude.{◌≡◌, ◌++◌, IfOk, OnOk, map};
 ghost use Rattle.dx_ports.specs.Members.{Each};
 ghost use Rattle.dx_model.specs.Rules.{TuplesAscend};
 ghost use Rattle.dx_model.specs.Matches.{rows_of_matches};

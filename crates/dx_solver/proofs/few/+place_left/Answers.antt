@@ -3,7 +3,6 @@ use Rattle.dx_ports.proofs.Members.{item_in}
 use Rattle.dx_instance.specs.Shown.{numbers_of_table}
 use Rattle.dx_solver.specs.Domains.{IsImageRow}
 use Rattle.dx_solver.specs.Questions.{FitsAtom}
-use Rattle.dx_solver.specs.declared.few.Found.TheVariants.{Nothing}
 use Rattle.dx_solver.proofs.RowFacts.{image_of, place_all, place_more}
 use Rattle.dx_solver.proofs.few.+place_left.Goals as goal
 

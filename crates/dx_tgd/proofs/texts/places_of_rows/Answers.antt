@@ -1,5 +1,4 @@
-use Rattle.std.proofs.Common.{◌∙◌, arith, subst, sym}
-use Rattle.std.proofs.lemmas.Nat.{mul-lt}
+use Rattle.std.proofs.Common.{◌∙◌, subst, sym}
 use Rattle.dx_model.specs.Rules.{TuplesAscend}
 use Rattle.dx_tgd.proofs.Ascending.{row_there, tuples_ascend}
 use Rattle.dx_tgd.proofs.Copied.{copied_all, copied_more, copied_none}
