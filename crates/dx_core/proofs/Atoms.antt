@@ -4,6 +4,7 @@ use Rattle.std.specs.List.{AllZip}
 use Rattle.std.proofs.lemmas.Bool.{true≢false}
 use Rattle.std.proofs.lemmas.List.{take_all, take_more}
 use Rattle.dx_ports.specs.Members.{◌∈◌, Each, here, there}
+use Rattle.dx_ports.proofs.Lists.{zip_push}
 use Rattle.dx_ports.proofs.Members.{from_append, in_left, in_right}
 use Rattle.dx_instance.specs.Shown.{NumberedInstance, PartsFit}
 use Rattle.dx_blocks.specs.declared.numbered.At.{At}
@@ -15,13 +16,6 @@ use Rattle.dx_solver.specs.Questions.{FitsAtom}
 use Rattle.dx_core.specs.Asking.{AreAtoms, IsAtomOf, IsTermOf}
 use Rattle.dx_core.proofs.Asked.{atom_fits}
 
-both_more : {X Y : Type 0} (R : X → Y → Type 0) (xs : List X) (ys : List Y) (x : X) (y : Y) → AllZip R xs ys → R x y
-    → AllZip R (xs ++ x ∷ []) (ys ++ y ∷ [])
-both_more R [] [] x y a r = (r, tt)
-both_more R [] (w ∷ ys) x y a r = absurd a
-both_more R (v ∷ xs) [] x y a r = absurd a
-both_more R (v ∷ xs) (w ∷ ys) x y a r = (a.0, both_more R xs ys x y a.1 r)
-
 pub terms_start : (nulls row : List ℕ) (ts : List Term) → ts ≡ [] → AllZip (IsTermOf nulls) (take 0 row) ts
 terms_start nulls [] ts e = rw e tt
 terms_start nulls (x ∷ row) ts e = rw e tt
@@ -29,7 +23,7 @@ terms_start nulls (x ∷ row) ts e = rw e tt
 pub term_more : (nulls row : List ℕ) (old new : List Term) (i : ℕ) (t : Term) → i < length row → IsTermOf nulls (get_or row i 0) t
     → new ≡ old ++ t ∷ [] → AllZip (IsTermOf nulls) (take i row) old → AllZip (IsTermOf nulls) (take (i + 1) row) new
 term_more nulls row old new i t h is e a =
-    rw (e, take_more row i 0 h) (both_more (IsTermOf nulls) (take i row) old (get_or row i 0) t a is)
+    rw (e, take_more row i 0 h) (zip_push (IsTermOf nulls) (take i row) old (get_or row i 0) t a is)
 
 pub terms_end : (nulls row : List ℕ) (ts : List Term) (i : ℕ) → length row ≤ i → AllZip (IsTermOf nulls) (take i row) ts
     → AllZip (IsTermOf nulls) row ts

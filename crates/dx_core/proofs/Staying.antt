@@ -4,10 +4,9 @@ use Rattle.std.specs.FinMap as finite
 use Rattle.dx_ports.specs.Members.{◌∈◌, ◌⊆◌, Each}
 use Rattle.dx_ports.proofs.Members.{from_map, in_flat_map, in_map}
 use Rattle.dx_model.specs.declared.values.NullId.{NullId}
-use Rattle.dx_model.specs.declared.values.Value.{Value}
 use Rattle.dx_model.specs.declared.values.Value.TheVariants.{Null}
 use Rattle.dx_model.specs.declared.facts.Fact.{Fact}
-use Rattle.dx_model.specs.Instances.{IsCore, IsHomomorphism, IsNullMap, fact_moved, given, image, moved, values}
+use Rattle.dx_model.specs.Instances.{IsCore, IsNullMap, fact_moved, given, image, moved, values}
 use Rattle.dx_model.specs.Values.{null_cmp}
 use Rattle.dx_model.proofs.Decided.{decide_in, same_value}
 use Rattle.dx_model.proofs.Reduction.{fact_stays}

@@ -1,4 +1,4 @@
-use Rattle.std.proofs.Common.{◌∙◌, ap, arith, sym}
+use Rattle.std.proofs.Common.{◌∙◌, ap, arith}
 use Rattle.dx_ports.proofs.Members.{in_at}
 use Rattle.dx_instance.specs.Numbers.{value_of}
 use Rattle.dx_model.specs.declared.facts.Fact.{Fact}

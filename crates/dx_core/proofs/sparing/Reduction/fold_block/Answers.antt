@@ -1,4 +1,4 @@
-use Rattle.std.proofs.Common.{get_or, map, refl}
+use Rattle.std.proofs.Common.{get_or, refl}
 use Rattle.dx_ports.specs.Members.{◌∈◌}
 use Rattle.dx_ports.proofs.Members.{in_at}
 use Rattle.dx_model.specs.Instances.{given}

@@ -1,6 +1,7 @@
 use Rattle.std.proofs.Common.{◌≡◌, ◌∙◌, ◌++◌, ◌∷◌, [], List, Bool, ap, inl, map, refl, sym, subst}
 use Rattle.std.proofs.lemmas.List.{map-append}
 use Rattle.dx_ports.specs.Members.{Each}
+use Rattle.dx_ports.proofs.Lists.{none_of_length}
 use Rattle.dx_model.proofs.Reduction.{reduct_of_reduct}
 use Rattle.dx_instance.specs.Shown.{NumberedInstance}
 use Rattle.dx_instance.specs.Stored.{facts}
@@ -9,7 +10,7 @@ use Rattle.dx_blocks.specs.Numbered.{shown_block}
 use Rattle.dx_core.specs.Left.{facts_left, shown_by}
 use Rattle.dx_core.specs.Sparing.{IsLeftOrIn}
 use Rattle.dx_core.proofs.Marked.{all_left_reduct}
-use Rattle.dx_core.proofs.Passed.{all_to_try, core_left, each_more, last_in, needed_more, none_left, others_in, rest_more}
+use Rattle.dx_core.proofs.Passed.{all_to_try, core_left, each_more, last_in, needed_more, others_in, rest_more}
 use Rattle.dx_core.proofs.sparing.Reduction.spare_blocks.Goals as goal
 
 shown_more : (N : NumberedInstance) (old new : List NumberBlock) (b : NumberBlock) → old ≡ new ++ b ∷ []
@@ -79,5 +80,5 @@ returns-clause-core c =
     let N = c.args.self.now.numbers in
     core_left (facts (shown_by N)) (facts_left N c.loop-block.self.taken) (map (shown_block N) c.args.blocks.items)
     (map (shown_block N) c.loop-block.left.items) c.requires.blocks
-    (ap (map (shown_block N)) (none_left c.loop-block.left.items (sym c.loop-block.left.ok.0 ∙ c.in_default.ensures.cases.0)))
+    (ap (map (shown_block N)) (none_of_length c.loop-block.left.items (sym c.loop-block.left.ok.0 ∙ c.in_default.ensures.cases.0)))
     c.loop-block.invariant.reduct c.loop-block.invariant.needed
