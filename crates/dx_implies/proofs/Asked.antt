@@ -1,32 +1,30 @@
 -- A conclusion in an instance of values, and its atoms of numbers among rows of numbers.
-use Rattle.std.proofs.Common.{◌≡◌, ◌↔◌, ◌∙◌, ℕ, zero, suc, ◌+◌, ◌<◌, ◌++◌, take, Bool, true, false, cond, inl, inr, List, [], ◌∷◌, length, get_or, refl, sym, ap, subst, arith, Result, Ok, Err}
+use Rattle.std.proofs.Common.{◌≡◌, ◌↔◌, ◌∙◌, ℕ, zero, suc, ◌+◌, ◌<◌, ◌++◌, take, Bool, false, List, [], ◌∷◌, length, get_or, refl, sym, ap, subst, arith, Result, Ok, Err}
 use Rattle.std.specs.Prelude.{IfOk, IsTrue, MatchOption, None, Option, Some, map, replicate, is_some}
 use Rattle.std.specs.List.{AllZip}
-use Rattle.std.proofs.lemmas.Bool.{cases_Bool, true≢false}
+use Rattle.std.proofs.lemmas.Bool.{true≢false}
 use Rattle.std.proofs.lemmas.List.{length-map, take_more}
+use Rattle.std.proofs.lemmas.Option.{none-some}
 use Rattle.std.specs.declared.alloc.AllocError.{AllocError}
 use Rattle.dx_ports.specs.Members.{◌∈◌, here, there, Each}
 use Rattle.dx_ports.proofs.Members.{from_flat_map, from_map, in_at, in_map}
 use Rattle.dx_model.specs.declared.values.Value.{Value}
-use Rattle.dx_model.specs.declared.values.Value.TheVariants.{Const}
 use Rattle.dx_model.specs.declared.rules.Cell.{Cell}
 use Rattle.dx_model.specs.declared.rules.Cell.TheVariants.{Var, Ex, Lit}
 use Rattle.dx_model.specs.declared.rules.Atom.{Atom}
-use Rattle.dx_model.specs.Covers.{same_value}
 use Rattle.dx_model.specs.Fitting.{AtomsFitWidths}
 use Rattle.dx_model.specs.Rules.{cell_value, cells_of, fact_of_atom}
 use Rattle.dx_ports.specs.Texts.{Text}
 use Rattle.dx_ports.proofs.Lists.{to_zip, from_zip}
-use Rattle.dx_ports.proofs.Options.{nothing, none_known, no_number}
-use Rattle.dx_model.proofs.Before.{same_value-refl, same_value-true}
-use Rattle.dx_instance.specs.Cells.{NumberTable, numbers_at}
+use Rattle.dx_ports.proofs.Options.{nothing, none_known}
+use Rattle.dx_instance.specs.Cells.{NumberTable}
 use Rattle.dx_instance.specs.Numbers.{AreDistinctValues, value_of}
 use Rattle.dx_instance.specs.Shown.{AreBelow, PartsFit, numbers_of_table, shown, shown_row, shown_tables}
 use Rattle.dx_instance.specs.Stored.{TableRows, facts, rows_of, table_at, widths}
 use Rattle.dx_instance.proofs.NumberFacts.{there_at}
 use Rattle.dx_instance.proofs.ShownFacts.{is_shown, number_same}
 use Rattle.dx_instance.proofs.StoredFacts.{fact_from_row, fact_table, row_from_fact}
-use Rattle.dx_instance.proofs.ValueNumbers.{number_of, number_at, number_back, row_place}
+use Rattle.dx_instance.proofs.ValueNumbers.{number_of, number_back, row_place}
 use Rattle.dx_tgd.proofs.Tables.{wide_table}
 use Rattle.dx_solver.specs.declared.atom.Term.{Term}
 use Rattle.dx_solver.specs.declared.atom.Term.TheVariants.{Variable}
@@ -206,7 +204,7 @@ answer_stands f ts out atoms known n None b e k m d = (
   (λ y. absurd (true≢false (sym y ∙ d))),
   (λ w. absurd (m w.0 (record {
     stands = subst (λ (z : List (List Bool)). Each atoms (HasImageRow ts z w.0)) (sym e) w.1;
-    keeps = λ v x h. absurd (no_number x (sym (ap (λ (l : List (Option ℕ)). get_or l v nothing) k ∙ none_known n v) ∙ h));
+    keeps = λ v x h. absurd (none-some x (sym (ap (λ (l : List (Option ℕ)). get_or l v nothing) k ∙ none_known n v) ∙ h));
   }))),
 )
 answer_stands f ts out atoms known n (Some xs) b e k m d = (
