@@ -1,6 +1,7 @@
 -- The notions on small values: R(n) and its ways into R(a), R(b).
 use Rattle.std.proofs.Common.{◌≡◌, ℕ, zero, suc, ◌<◌, true, false, List, [], ◌∷◌, codes, refl, sym, ◌∙◌, ap, subst, arith}
 use Rattle.std.specs.Prelude.{Option, Some, None}
+use Rattle.std.proofs.lemmas.Option.{none-some}
 use Rattle.std.specs.FinMap as finite
 use Rattle.dx_ports.specs.Members.{◌∈◌, here, there}
 use Rattle.dx_model.specs.declared.values.NullId.{NullId}
@@ -39,11 +40,8 @@ into = record { width = 1; rows = (a ∷ []) ∷ (b ∷ []) ∷ [] } ∷ []
 abbrev to : Value → List NullPair
 to v = record { null = n; value = v } ∷ []
 
-none_is_some : {X : Type 0} {x : X} → ◌≡◌ {A = Option X} None (Some x) → ⊥
-none_is_some e = cc
-
 nothing_is_fixed : (k : NullId) (v w : Value) → finite.get (finite.empty {X = Value} {R = null_cmp}) k ≡ Some v → w ≡ v
-nothing_is_fixed k v w e = absurd (none_is_some (sym (finite.get-empty null_cmp k) ∙ e))
+nothing_is_fixed k v w e = absurd (none-some v (sym (finite.get-empty null_cmp k) ∙ e))
 
 -- ---- what is sought
 
@@ -93,7 +91,7 @@ b_is_an_answer = record {
   gives = λ h null_map same. record {
     homomorphism = record { null_map = null_map; inside = λ f m. inside h (same n (here refl)) f m };
     keeps = λ k v e. nothing_is_fixed k v (given h k) e;
-    avoids = λ f e. absurd (none_is_some e);
+    avoids = λ f e. absurd (none-some f e);
   };
 }
   where

@@ -7,7 +7,7 @@ use Rattle.dx_model.specs.declared.values.Value.{Value}
 use Rattle.dx_model.specs.declared.facts.Fact.{Fact}
 use Rattle.dx_model.specs.Instances.{fact_moved, moved, values, nulls_in}
 use Rattle.dx_instance.specs.NullMaps.{ByNull}
-use Rattle.dx_instance.specs.Stored.{HasTableIn, TableRows, rows_of, table_at}
+use Rattle.dx_instance.specs.Stored.{HasTableIn, TableRows, rows_of}
 use Rattle.dx_instance.specs.Places.{fact_at}
 use Rattle.dx_hom.specs.declared.matching.Found.{Found}
 use Rattle.dx_hom.specs.View.{gone_at}

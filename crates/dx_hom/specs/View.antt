@@ -1,8 +1,6 @@
 -- Facts that are taken out, by their places.
 use Rattle.std.specs.Prelude.{ℕ, Bool, true, false, List, [], length, map, replicate, slice_index_or, slice_set}
-use Rattle.dx_model.specs.declared.facts.Fact.{Fact}
 use Rattle.dx_instance.specs.Stored.{TableRows}
-use Rattle.dx_instance.specs.Places.{row_at}
 
 -- whether the fact at a place is taken out
 abbrev pub gone_at : List (List Bool) → ℕ → ℕ → Bool
