@@ -1,27 +1,25 @@
 -- The tests of used cell maps.
-use Rattle.std.proofs.Common.{◌≡◌, ℕ, zero, suc, ◌+◌, ◌<◌, ◌≤◌, ◌⊎◌, Bool, true, false, cond, eqb, List, [], ◌∷◌, ◌++◌, refl, sym, ◌∙◌, ap, subst, length, get_or, arith, inl, inr}
-use Rattle.std.specs.Prelude.{map, nat_lt}
+use Rattle.std.proofs.Common.{◌≡◌, ℕ, zero, suc, ◌<◌, true, false, cond, eqb, List, [], ◌∷◌, refl, sym, ◌∙◌, ap, subst, length, get_or, arith, inl, inr}
+use Rattle.std.specs.Prelude.{map}
 use Rattle.std.specs.List.{position_or_len}
 use Rattle.std.proofs.lemmas.Bool.{cases_Bool, eq-eqb, eqb-true, ne_eqb}
 use Rattle.std.proofs.lemmas.List.{get_or-map, length-map}
 use Rattle.dx_ports.specs.Members.{◌∈◌, here, there, Each}
-use Rattle.dx_ports.proofs.Members.{in_at, from_map, from_flat_map, in_flat_map}
+use Rattle.dx_ports.proofs.Members.{in_at, from_map, in_flat_map}
 use Rattle.dx_ports.proofs.Tests.{map_same}
 use Rattle.dx_model.specs.declared.rules.Cell.{Cell}
 use Rattle.dx_model.specs.declared.rules.Cell.TheVariants.{Var, Ex, Lit}
 use Rattle.dx_model.specs.declared.rules.Atom.{Atom}
 use Rattle.dx_model.specs.declared.rules.Rule.{Rule}
 use Rattle.dx_model.specs.declared.covers.CellMap.{CellMap}
-use Rattle.dx_model.specs.declared.covers.Meeting.{Meeting}
-use Rattle.dx_model.specs.Rules.{Increase, cells_of, exported}
-use Rattle.dx_model.specs.Covers.{HasWidths, IsNoExistential, below, cell_maps, cell_under, choices, first_met, image_of, is_cell_map, map_of, meetings, used_maps}
+use Rattle.dx_model.specs.Rules.{Increase, exported}
+use Rattle.dx_model.specs.Covers.{HasWidths, IsNoExistential, below, cell_under, first_met, image_of, map_of, used_maps}
 use Rattle.dx_model.proofs.Lists.{from_below}
 use Rattle.dx_model.proofs.Canonical.{exported_exactly}
 use Rattle.dx_model.proofs.Before.{from_used}
 use Rattle.dx_model.proofs.Carrying.{maps_carry}
 use Rattle.dx_model.specs.Fitting.{AgreeInWidths, conclusions_of}
 use Rattle.dx_script.proofs.MatchTables.{index_of}
-use Rattle.dx_script.specs.declared.form.Test.{Test}
 use Rattle.dx_script.specs.Rewritten.{test_of, tests_of}
 use Rattle.dx_script.proofs.Fitted.{at_below, length_map_below}
 use Rattle.dx_scriptgen.specs.Parts.{test_for, tests_for}

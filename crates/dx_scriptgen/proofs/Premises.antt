@@ -1,7 +1,7 @@
 -- What is met in a premise whose variables are numbered by first appearance.
-use Rattle.std.proofs.Common.{◌≡◌, ℕ, zero, suc, ◌+◌, ◌<◌, ◌≤◌, ◌⊎◌, true, false, cond, eqb, List, [], ◌∷◌, ◌++◌, refl, sym, ◌∙◌, ap, subst, length, get_or, arith, append_assoc, inl, inr}
+use Rattle.std.proofs.Common.{◌≡◌, ℕ, suc, ◌+◌, ◌<◌, ◌≤◌, ◌⊎◌, true, false, eqb, List, [], ◌∷◌, ◌++◌, refl, sym, ◌∙◌, ap, subst, length, get_or, arith, append_assoc, inl, inr}
 use Rattle.std.specs.Prelude.{map, flat_map, nat_lt, ◌&&◌}
-use Rattle.std.proofs.lemmas.List.{append-nil, length-append, length-map, get_or-map, map-append, take_more, take-append-drop}
+use Rattle.std.proofs.lemmas.List.{append-nil, length-append, map-append, take_more, take-append-drop}
 use Rattle.std.proofs.Common.{take, drop, add-one}
 use Rattle.std.proofs.lemmas.Grind.{flat_map-append}
 use Rattle.std.proofs.lemmas.Bool.{cases_Bool, eq-eqb, ne_eqb}
@@ -19,13 +19,11 @@ use Rattle.dx_model.specs.declared.rules.Rule.{Rule}
 use Rattle.dx_model.specs.Fitting.{IsRule, IsVariable, ByFirstAppearance, premise_variables, cell_variable}
 use Rattle.dx_model.proofs.Lists.{from_below}
 use Rattle.dx_schema.specs.Names.{TableNames}
-use Rattle.dx_script.specs.declared.form.CellRef.{CellRef}
-use Rattle.dx_script.specs.declared.form.Equal.{Equal}
 use Rattle.dx_script.specs.Names.{column_at}
 use Rattle.dx_script.specs.Generated.{Spot, spots_of_cells, spots, is_variable, first_spot, shows, equal_to, further, equals}
 use Rattle.dx_script.proofs.NameFacts.{nat_lt_tells}
 use Rattle.dx_script.proofs.Spots.{first_stands, is_variable-same, is_variable-true}
-use Rattle.dx_script.proofs.Fitted.{at_below, length_map_below}
+use Rattle.dx_script.proofs.Fitted.{at_below}
 use Rattle.dx_scriptgen.specs.declared.premise.Premise.{Premise}
 use Rattle.dx_scriptgen.specs.Premises.{met, met_cell, met_spots}
 

@@ -1,6 +1,6 @@
 -- What is selected for a variable.
-use Rattle.std.proofs.Common.{◌≡◌, ℕ, ◌+◌, ◌-◌, ◌<◌, ◌≤◌, ◌⊎◌, Bool, true, false, cond, List, [], ◌∷◌, refl, sym, ◌∙◌, ap, subst, length, get_or, arith, inl, inr}
-use Rattle.std.specs.Prelude.{map, nat_lt}
+use Rattle.std.proofs.Common.{◌≡◌, ℕ, ◌+◌, ◌-◌, ◌<◌, ◌≤◌, List, [], sym, ◌∙◌, ap, subst, length, get_or, arith, inl, inr}
+use Rattle.std.specs.Prelude.{map}
 use Rattle.std.proofs.lemmas.List.{get_or_default}
 use Rattle.dx_ports.specs.Members.{◌∈◌, Each}
 use Rattle.dx_ports.proofs.Members.{in_at, in_map}
@@ -16,7 +16,6 @@ use Rattle.dx_script.specs.declared.form.CellRef.{CellRef}
 use Rattle.dx_script.specs.declared.form.Select.{Select}
 use Rattle.dx_script.specs.declared.form.Select.TheVariants.{Cell as Shown, Call}
 use Rattle.dx_script.specs.declared.form.Equal.{Equal}
-use Rattle.dx_script.specs.declared.form.Step.{Step}
 use Rattle.dx_script.specs.declared.form.Step.TheVariants.{MatchRows}
 use Rattle.dx_script.specs.Generated.{Spot, first_spot, select_of, shows}
 use Rattle.dx_scriptgen.specs.Selecting.{firsts_of}

@@ -1,15 +1,12 @@
 -- The tables of a schema by their names, and rules over them.
-use Rattle.std.proofs.Common.{◌≡◌, ℕ, ◌+◌, ◌-◌, ◌^◌, ◌<◌, [], refl, sym, length, get_or, arith, inl, inr}
-use Rattle.std.specs.Prelude.{map, flat_map, None}
+use Rattle.std.proofs.Common.{◌≡◌, ℕ, ◌<◌, sym, length, get_or, arith}
 use Rattle.std.proofs.lemmas.List.{get_or-map, length-map}
-use Rattle.dx_ports.specs.Members.{Each}
 use Rattle.dx_model.specs.declared.rules.Rule.{Rule}
-use Rattle.dx_model.specs.Tables.{table_of}
 use Rattle.dx_model.specs.Rules.{exported, cells_of}
 use Rattle.dx_model.specs.Fitting.{IsRule}
 use Rattle.dx_model.proofs.Cells.{variables_few}
 use Rattle.dx_schema.specs.Forest.{Forest}
-use Rattle.dx_schema.specs.Tables.{TableOf, schema_table, tables_of, no_table}
+use Rattle.dx_schema.specs.Tables.{schema_table, tables_of, no_table}
 use Rattle.dx_schema.specs.Names.{TableNames, table_names_of, names_of_table}
 
 pub named_item : (f : Forest) (t : ℕ) (d : TableNames) → t < length (tables_of f) → names_of_table (schema_table f t) ≡ get_or (table_names_of f) t d

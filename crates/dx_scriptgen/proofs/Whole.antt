@@ -1,10 +1,10 @@
 -- The whole script of rules.
-use Rattle.std.proofs.Common.{◌≡◌, ℕ, ◌<◌, ◌≤◌, arith, Bool, false, List, [], ◌∷◌, ◌++◌, refl, sym, ◌∙◌, ap, subst, length, get_or, append_assoc}
+use Rattle.std.proofs.Common.{◌≡◌, ℕ, ◌<◌, ◌≤◌, arith, Bool, false, List, [], ◌++◌, sym, ◌∙◌, ap, length, get_or, append_assoc}
 use Rattle.std.specs.Prelude.{map, flat_map}
 use Rattle.std.proofs.lemmas.List.{get_or-map}
 use Rattle.dx_ports.proofs.Tests.{flat_map_same}
 use Rattle.dx_ports.specs.Members.{◌∈◌, Each}
-use Rattle.dx_ports.proofs.Members.{in_flat_map, from_flat_map}
+use Rattle.dx_ports.proofs.Members.{from_flat_map}
 use Rattle.dx_model.specs.declared.rules.Atom.{Atom}
 use Rattle.dx_model.specs.declared.rules.Rule.{Rule}
 use Rattle.dx_model.specs.Tables.{Table}

@@ -1,5 +1,5 @@
 // Copies of parts of scripts.
-ghost use Rattle.std.specs.Prelude.{◌≡◌, ◌<◌, IfOk, ℕ, length, map, slice_index_or};
+ghost use Rattle.std.specs.Prelude.{◌≡◌, ◌<◌, IfOk, length, map, slice_index_or};
 ghost use Rattle.dx_ports.specs.Members.{Each};
 ghost use Rattle.dx_script.specs.declared.form.CellRef.{CellRef as CellValue};
 

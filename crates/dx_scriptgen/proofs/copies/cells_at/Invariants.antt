@@ -1,5 +1,5 @@
-use Rattle.std.proofs.Common.{◌≡◌, ◌+◌, ◌++◌, List, [], take, drop, eqb, false, length}
-use Rattle.std.specs.Prelude.{map, flat_map, slice_index_or}
+use Rattle.std.proofs.Common.{◌≡◌, take}
+use Rattle.std.specs.Prelude.{map, slice_index_or}
 use Rattle.dx_script.specs.declared.form.CellRef.{CellRef}
 use Rattle.dx_scriptgen.proofs.copies.cells_at.Given as goal
 

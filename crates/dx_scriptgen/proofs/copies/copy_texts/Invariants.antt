@@ -1,4 +1,4 @@
-use Rattle.std.proofs.Common.{◌≡◌, ◌+◌, ◌++◌, List, [], take, drop, eqb, false, length}
+use Rattle.std.proofs.Common.{◌≡◌, take}
 use Rattle.dx_scriptgen.proofs.copies.copy_texts.Given as goal
 
 abbrev pub invariant-loop-text : goal.invariant-loop-text

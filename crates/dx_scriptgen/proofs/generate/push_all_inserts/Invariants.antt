@@ -1,5 +1,5 @@
-use Rattle.std.proofs.Common.{◌≡◌, ◌+◌, ◌++◌, List, [], take, drop, eqb, false, length}
-use Rattle.std.specs.Prelude.{map, flat_map, slice_index_or}
+use Rattle.std.proofs.Common.{◌≡◌, ◌++◌, false}
+use Rattle.std.specs.Prelude.{flat_map, slice_index_or}
 use Rattle.dx_model.specs.Covers.{below, rule_at}
 use Rattle.dx_schema.specs.Names.{table_names_of}
 use Rattle.dx_script.specs.Generated.{inserts_of}

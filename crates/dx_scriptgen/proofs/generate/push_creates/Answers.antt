@@ -1,4 +1,4 @@
-use Rattle.std.proofs.Common.{◌≡◌, ◌<◌, ◌∙◌, ◌++◌, ◌∷◌, [], ap, sym, length}
+use Rattle.std.proofs.Common.{◌<◌, ◌∙◌, length}
 use Rattle.dx_schema.specs.Names.{TableNames, table_names_of, names_of_table}
 use Rattle.dx_schema.specs.Tables.{schema_table, tables_of}
 use Rattle.dx_script.specs.declared.form.Step.TheVariants.{Create}

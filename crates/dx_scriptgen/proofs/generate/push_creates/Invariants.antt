@@ -1,5 +1,5 @@
-use Rattle.std.proofs.Common.{◌≡◌, ◌+◌, ◌++◌, List, [], take, drop, eqb, false, length}
-use Rattle.std.specs.Prelude.{map, flat_map, slice_index_or}
+use Rattle.std.proofs.Common.{◌≡◌, ◌++◌, take}
+use Rattle.std.specs.Prelude.{map}
 use Rattle.dx_schema.specs.Names.{TableNames, table_names_of}
 use Rattle.dx_script.specs.declared.form.Step.TheVariants.{Create}
 use Rattle.dx_scriptgen.proofs.generate.push_creates.Given as goal

@@ -1,9 +1,4 @@
-use Rattle.std.proofs.Common.{◌≡◌, ◌<◌, ◌≤◌, ℕ, ◌+◌, ◌∙◌, ◌++◌, List, ◌∷◌, [], ap, sym, subst, length, drop, get_or, arith}
-use Rattle.std.specs.Prelude.{flat_map, slice_index_or}
-use Rattle.dx_model.specs.Covers.{below}
-use Rattle.dx_script.specs.declared.form.Unless.{Unless}
-use Rattle.dx_script.specs.declared.form.Step.{Step}
-use Rattle.dx_script.specs.Generated.{keep_step}
+use Rattle.std.proofs.Common.{◌∙◌, ◌++◌, ap}
 use Rattle.dx_scriptgen.proofs.Keeping.{all_kept, keep_more, keep_none, kept_one}
 use Rattle.dx_scriptgen.proofs.generate.push_keeps.Goals as goal
 

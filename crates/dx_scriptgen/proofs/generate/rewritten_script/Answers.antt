@@ -1,14 +1,9 @@
-use Rattle.std.proofs.Common.{◌≡◌, ◌∙◌, [], ap, sym, subst, length}
+use Rattle.std.proofs.Common.{◌≡◌, ◌∙◌, ap, sym, subst, length}
 use Rattle.std.proofs.lemmas.Result.{IfOk-weaker}
-use Rattle.std.specs.Prelude.{map}
-use Rattle.dx_model.specs.Covers.{below}
 use Rattle.dx_schema.specs.Names.{table_names_of}
-use Rattle.dx_schema.specs.Tables.{model_tables, tables_of}
+use Rattle.dx_schema.specs.Tables.{model_tables}
 use Rattle.dx_funcs.specs.Serving.{offered}
-use Rattle.dx_script.specs.declared.form.Script.{Script}
-use Rattle.dx_script.specs.declared.form.Unless.{Unless}
 use Rattle.dx_script.specs.Fits.{FitsScript}
-use Rattle.dx_script.specs.Generated.{plain_steps}
 use Rattle.dx_script.specs.Rewritten.{rewritten_steps, unless_parts}
 use Rattle.dx_script.specs.Laws.{RulesFit}
 use Rattle.dx_script.proofs.Fitted.{length_map_below}
@@ -17,7 +12,6 @@ use Rattle.dx_script.proofs.RuleFacts.{names_fit, widths_fit}
 use Rattle.dx_script.proofs.Uncovered.{rewritten_means_uncovered}
 use Rattle.dx_scriptgen.proofs.Whole.{agree_in_widths, listed_script}
 use Rattle.dx_scriptgen.proofs.generate.rewritten_script.Goals as goal
-use Rattle.dx_scriptgen.proofs.generate.rewritten_script.Goals.{After-script_of}
 
 pub script_of-requires-clause-rules : goal.script_of-requires-clause-rules
 script_of-requires-clause-rules g c = λ d m. record { fits = c.requires.rules d m; listed = c.requires.listed d m }

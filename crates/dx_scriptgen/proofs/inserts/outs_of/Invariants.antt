@@ -1,5 +1,5 @@
-use Rattle.std.proofs.Common.{◌≡◌, ◌+◌, ◌++◌, List, [], take, drop, eqb, false, length}
-use Rattle.std.specs.Prelude.{map, flat_map, slice_index_or}
+use Rattle.std.proofs.Common.{◌≡◌, take}
+use Rattle.std.specs.Prelude.{map}
 use Rattle.dx_model.specs.declared.rules.Rule.{Rule}
 use Rattle.dx_model.specs.Rules.{exported}
 use Rattle.dx_script.specs.Generated.{out_of}

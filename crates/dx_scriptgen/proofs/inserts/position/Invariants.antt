@@ -1,4 +1,4 @@
-use Rattle.std.proofs.Common.{◌≡◌, ◌+◌, ◌++◌, List, [], take, drop, eqb, false, length}
+use Rattle.std.proofs.Common.{◌≡◌, ◌+◌, drop, eqb}
 use Rattle.std.specs.List.{position_or_len}
 use Rattle.dx_scriptgen.proofs.inserts.position.Given as goal
 

@@ -1,4 +1,4 @@
-use Rattle.std.proofs.Common.{◌≡◌, ◌<◌, ◌∙◌, ◌++◌, ◌∷◌, [], ap, sym, length, get_or}
+use Rattle.std.proofs.Common.{◌<◌, ◌∙◌, ap, sym, length}
 use Rattle.dx_ports.proofs.Loops.{each_item}
 use Rattle.dx_model.specs.declared.rules.Atom.{Atom}
 use Rattle.dx_schema.specs.Names.{TableNames, table_names_of}

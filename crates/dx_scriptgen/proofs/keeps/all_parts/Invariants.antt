@@ -1,5 +1,5 @@
-use Rattle.std.proofs.Common.{◌≡◌, ◌+◌, ◌++◌, List, [], take, drop, eqb, false, length}
-use Rattle.std.specs.Prelude.{map, flat_map, slice_index_or}
+use Rattle.std.proofs.Common.{◌≡◌}
+use Rattle.std.specs.Prelude.{map}
 use Rattle.dx_model.specs.Covers.{below}
 use Rattle.dx_script.specs.Rewritten.{unless_parts}
 use Rattle.dx_scriptgen.proofs.keeps.all_parts.Given as goal

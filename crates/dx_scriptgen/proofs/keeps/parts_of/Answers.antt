@@ -1,4 +1,4 @@
-use Rattle.std.proofs.Common.{◌≡◌, ◌∙◌, ◌++◌, List, [], ap, sym}
+use Rattle.std.proofs.Common.{◌∙◌, sym}
 use Rattle.std.specs.Prelude.{map}
 use Rattle.dx_model.specs.Covers.{before, rule_at, used_maps}
 use Rattle.dx_script.specs.Rewritten.{unless_of}

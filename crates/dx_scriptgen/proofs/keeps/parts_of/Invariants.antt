@@ -1,5 +1,5 @@
-use Rattle.std.proofs.Common.{◌≡◌, ◌+◌, ◌++◌, List, [], take, drop, eqb, false, length}
-use Rattle.std.specs.Prelude.{map, flat_map, slice_index_or}
+use Rattle.std.proofs.Common.{◌≡◌}
+use Rattle.std.specs.Prelude.{map, flat_map}
 use Rattle.std.specs.List.{filter}
 use Rattle.dx_model.specs.Covers.{before, below, rule_at, used_maps}
 use Rattle.dx_script.specs.Rewritten.{unless_of}

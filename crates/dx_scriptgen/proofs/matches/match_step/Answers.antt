@@ -1,4 +1,4 @@
-use Rattle.std.proofs.Common.{◌≡◌, ◌<◌, ◌∙◌, List, [], ap, sym, subst, length}
+use Rattle.std.proofs.Common.{◌∙◌, ap, length}
 use Rattle.dx_model.specs.Fitting.{premise_variables}
 use Rattle.dx_schema.specs.Names.{table_names_of}
 use Rattle.dx_script.specs.Generated.{first_spot, shows, spots}

@@ -1,5 +1,5 @@
-use Rattle.std.proofs.Common.{◌≡◌, ◌+◌, ◌++◌, List, [], take, drop, eqb, false, length}
-use Rattle.std.specs.Prelude.{map, flat_map, slice_index_or}
+use Rattle.std.proofs.Common.{◌≡◌, List, take}
+use Rattle.std.specs.Prelude.{map}
 use Rattle.dx_model.specs.Covers.{below}
 use Rattle.dx_model.specs.Fitting.{premise_variables}
 use Rattle.dx_funcs.specs.Serving.{offered}

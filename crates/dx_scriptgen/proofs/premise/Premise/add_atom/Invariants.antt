@@ -1,4 +1,4 @@
-use Rattle.std.proofs.Common.{◌≡◌, ◌+◌, ◌++◌, List, [], take, drop, eqb, false, length}
+use Rattle.std.proofs.Common.{◌≡◌, drop}
 use Rattle.dx_schema.specs.Names.{table_names_of}
 use Rattle.dx_script.specs.Generated.{spots_of_cells}
 use Rattle.dx_scriptgen.specs.Premises.{met_spots}

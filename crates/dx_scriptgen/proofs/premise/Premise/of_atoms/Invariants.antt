@@ -1,4 +1,4 @@
-use Rattle.std.proofs.Common.{◌≡◌, ◌+◌, ◌++◌, List, [], take, drop, eqb, false, length, ◌≤◌}
+use Rattle.std.proofs.Common.{◌≡◌, [], take, drop, length, ◌≤◌}
 use Rattle.dx_model.specs.Rules.{cells_of}
 use Rattle.dx_schema.specs.Names.{table_names_of}
 use Rattle.dx_script.specs.Generated.{spots}
