@@ -1,8 +1,8 @@
 -- The constant answers of a part, by the numbers that its patterns are given.
-use Rattle.std.proofs.Common.{◌≡◌, ◌∙◌, ◌<◌, ◌≤◌, ◌^◌, ℕ, zero, suc, List, [], ◌∷◌, refl, sym, ap, subst, arith, length, get_or, Result, Ok, Err, Option, None, Some}
+use Rattle.std.proofs.Common.{◌≡◌, ◌∙◌, ◌<◌, ◌≤◌, ◌^◌, ℕ, zero, suc, List, [], ◌∷◌, refl, sym, ap, subst, arith, length, Result, Ok, Err, Option, None, Some}
 use Rattle.std.specs.Prelude.{map, IfOk, MatchOption}
 use Rattle.std.specs.declared.alloc.AllocError.{AllocError}
-use Rattle.std.proofs.lemmas.List.{get_or-map, get_or_default, length-map}
+use Rattle.std.proofs.lemmas.List.{get_or_default, length-map}
 use Rattle.std.proofs.lemmas.Simd.{map-map}
 use Rattle.dx_ports.specs.Members.{◌∈◌, ◌⊆◌, here, there, Each}
 use Rattle.dx_ports.proofs.Members.{in_map, from_map, in_at, contains_from_in, from_flat_map}
