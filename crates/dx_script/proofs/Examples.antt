@@ -1,16 +1,18 @@
 -- The scripts of small rules, computed, and steps that don't fit.
-use Rattle.std.proofs.Common.{◌≡◌, ℕ, ◌<◌, true, false, List, [], ◌∷◌, get_or, refl, sym, ap, ◌∙◌, arith}
+use Rattle.std.proofs.Common.{◌≡◌, ℕ, ◌<◌, true, false, List, [], ◌∷◌, ◌++◌, length, get_or, refl, sym, ap, ◌∙◌, arith}
 use Rattle.dx_model.specs.declared.rules.Cell.TheVariants.{Var, Ex, Lit}
 use Rattle.dx_model.specs.declared.rules.Rule.{Rule}
 use Rattle.std.specs.Prelude.{codes}
 use Rattle.dx_schema.specs.Names.{TableNames}
 use Rattle.dx_funcs.specs.declared.conversion.Conversion.{Conversion}
+use Rattle.dx_ports.specs.Texts.{Text}
+use Rattle.dx_script.specs.declared.form.CellRef.{CellRef}
 use Rattle.dx_script.specs.declared.form.Step.{Step}
 use Rattle.dx_script.specs.declared.form.Step.TheVariants.{Create, MatchRows, KeepRows, InsertRows}
 use Rattle.dx_script.specs.declared.form.Out.{Out}
 use Rattle.dx_script.specs.declared.form.Select.TheVariants.{Cell as Shown, Call}
 use Rattle.dx_script.specs.declared.form.Out.TheVariants.{Column, Literal, Skolem}
-use Rattle.dx_script.specs.declared.form.Test.TheVariants.{Columns}
+use Rattle.dx_script.specs.declared.form.Test.TheVariants.{Columns, Literal as Same}
 use Rattle.dx_script.specs.declared.form.Unless.{Unless}
 use Rattle.dx_ports.specs.Members.{here, there}
 use Rattle.dx_script.specs.Fits.{CellFits, FitsScript, InsertFits, KeepFits, MatchFits, ReadsKept, SelectFits, TestFits, UnlessFits}
@@ -58,9 +60,28 @@ parts : unless_parts (narrow ∷ wide ∷ []) 0 ≡ record { rule = 1; tests = C
 unfolding narrow wide
 parts = refl
 
+-- one for each rule before it, in order
+two_parts : unless_parts (narrow ∷ wide ∷ wide ∷ []) 0
+    ≡ record { rule = 1; tests = Columns 0 0 ∷ [] } ∷ record { rule = 2; tests = Columns 0 0 ∷ [] } ∷ []
+unfolding narrow wide
+two_parts = refl
+
 no_parts : unless_parts (narrow ∷ wide ∷ []) 1 ≡ []
 unfolding narrow wide
 no_parts = refl
+
+-- T(x0, x1) is not kept where T(x0, 'z') has a tuple with the same first column, if its own second one is z
+fixed : Rule
+fixed = record {
+  premise = record { table = 0; cells = Var 0 ∷ Var 1 ∷ [] } ∷ [];
+  derived = [];
+  conclusion = record { table = 0; cells = Var 0 ∷ Lit (codes "z") ∷ [] } ∷ [];
+}
+
+of_a_literal : unless_parts (wide ∷ fixed ∷ []) 0
+    ≡ record { rule = 1; tests = Columns 0 0 ∷ Same 1 (codes "z") ∷ [] } ∷ []
+unfolding wide fixed
+of_a_literal = refl
 
 -- each further cell of a variable is equal to its first one: A(x0, x0), A(x0, x1)
 thrice : Rule
@@ -103,6 +124,38 @@ no_table_is_created : ¬ FitsScript source target list []
 unfolding target
 no_table_is_created h = absurd (cc h.creates)
 
+-- one that leaves out a column, or gives the table another name
+abbrev first_width : List (Text × List Text) → ℕ
+first_width [] = 0
+first_width (t ∷ ts) = length t.1
+
+one_column : ¬ FitsScript source target list (Create (codes "T") (codes "c" ∷ []) ∷ [])
+unfolding target
+one_column h = let e : 1 ≡ 2 = ap first_width h.creates in omega (arith, e)
+
+abbrev first_byte : List (Text × List Text) → ℕ
+first_byte [] = 0
+first_byte (t ∷ ts) = get_or t.0 0 0
+
+another_name : ¬ FitsScript source target list (Create (codes "U") (codes "c" ∷ codes "d" ∷ []) ∷ [])
+unfolding target
+another_name h = let e : 85 ≡ 84 = ap first_byte h.creates in omega (arith, e)
+
+-- each step of a script has to fit: none fills a table, or keeps tuples, of a match table that is not there, or matches for
+-- rule 1 first
+abbrev table_alone : List Step
+table_alone = Create (codes "T") (codes "c" ∷ codes "d" ∷ []) ∷ []
+
+fills_of_nothing : (cells : List Out) → ¬ FitsScript source target list (table_alone ++ InsertRows (codes "T") 0 false cells ∷ [])
+fills_of_nothing cells h =
+    let r = (h.each table_alone [] (InsertRows (codes "T") 0 false cells) refl).rule in omega (arith, r)
+
+matches_for_rule_1 : ¬ FitsScript source target list (table_alone ++ MatchRows 1 [] [] [] ∷ [])
+matches_for_rule_1 h = let n = (h.each table_alone [] (MatchRows 1 [] [] []) refl).number in omega (arith, n)
+
+keeps_of_nothing : (unless : List Unless) → ¬ FitsScript source target list (table_alone ++ KeepRows 0 unless ∷ [])
+keeps_of_nothing unless h = let r = (h.each table_alone [] (KeepRows 0 unless) refl).rule in omega (arith, r)
+
 -- a cell of an alias that is not there, or of another column
 no_alias : ¬ CellFits source (codes "A" ∷ []) (record { alias = 1; column = codes "a" })
 no_alias h = omega (arith, h.alias)
@@ -115,6 +168,33 @@ other_name name first e f less =
 no_column : ¬ CellFits source (codes "A" ∷ []) (record { alias = 0; column = codes "c" })
 unfolding source
 no_column h = elim h.column [ here e ↦ other_name (codes "a") 97 e refl (omega arith) | there m ↦ elim m [ here e ↦ other_name (codes "b") 98 e refl (omega arith) | there n ↦ elim n [ ] ] ]
+
+-- neither cell of an equality, nor one that a conversion takes, may be such a cell; nor may what is selected
+abbrev here_a : CellRef
+here_a = record { alias = 0; column = codes "a" }
+
+abbrev nowhere : CellRef
+nowhere = record { alias = 1; column = codes "a" }
+
+no_cell_of_a_call : ¬ SelectFits source list (codes "A" ∷ []) (Call (codes "f") (nowhere ∷ []))
+no_cell_of_a_call h = no_alias (h.1 nowhere (here refl))
+
+no_left_cell : ¬ MatchFits source list [] 0 [] (codes "A" ∷ []) (record { left = nowhere; right = here_a } ∷ [])
+no_left_cell h = no_alias (h.equal_cells (record { left = nowhere; right = here_a }) (here refl)).0
+
+no_right_cell : ¬ MatchFits source list [] 0 [] (codes "A" ∷ []) (record { left = here_a; right = nowhere } ∷ [])
+no_right_cell h = no_alias (h.equal_cells (record { left = here_a; right = nowhere }) (here refl)).1
+
+no_selected_cell : ¬ MatchFits source list [] 0 (Shown nowhere ∷ []) (codes "A" ∷ []) []
+no_selected_cell h = no_alias (h.selected (Shown nowhere) (here refl))
+
+-- a match table of a set that the source hasn't
+no_set : ¬ MatchFits source list [] 0 [] (codes "B" ∷ []) []
+unfolding source
+no_set h = elim (h.sources_named (codes "B") (here refl)) [
+  | here e ↦ let b : 65 ≡ 66 = ap (λ (t : List ℕ). get_or t 0 0) e in omega (arith, b)
+  | there m ↦ elim m [ ]
+]
 
 -- a conversion of no cell that takes one
 too_few_cells : ¬ SelectFits source list (codes "A" ∷ []) (Call (codes "f") [])
@@ -139,10 +219,24 @@ no_own_column : ¬ TestFits before 0 0 (Columns 0 1)
 unfolding before
 no_own_column h = omega (arith, h.1.1)
 
+no_other_column : ¬ TestFits before 0 0 (Columns 1 0)
+unfolding before
+no_other_column h = omega (arith, h.0.1)
+
+no_column_of_a_text : ¬ TestFits before 0 0 (Same 1 (codes "z"))
+unfolding before
+no_column_of_a_text h = omega (arith, h.1)
+
+no_column_of_a_part : ¬ UnlessFits before 0 (record { rule = 0; tests = Columns 0 1 ∷ [] })
+no_column_of_a_part h = no_own_column (h.tests (Columns 0 1) (here refl))
+
 -- a partner of a table that is not there
 no_partner : ¬ UnlessFits before 0 (record { rule = 1; tests = [] })
 unfolding before
 no_partner h = omega (arith, h.rule)
+
+no_kept_partner : ¬ KeepFits before 0 (record { rule = 1; tests = [] } ∷ [])
+no_kept_partner h = no_partner (h.parts (record { rule = 1; tests = [] }) (here refl))
 
 -- a keep table without a match table, or a second one
 kept_too_early : (unless : List Unless) → ¬ KeepFits [] 0 unless
@@ -165,3 +259,16 @@ kept_later later h = elim h [ ]
 
 all_where_some_are_kept : (unless : List Unless) → ¬ ReadsKept (KeepRows 0 unless ∷ []) [] 0 false
 all_where_some_are_kept unless h = h (here refl)
+
+not_of_its_keep_table : (unless : List Unless) (cells : List Out)
+    → ¬ InsertFits target (KeepRows 0 unless ∷ []) before (codes "T") 0 false cells
+not_of_its_keep_table unless cells h = all_where_some_are_kept unless h.reads
+
+-- an insert of a match table that is not there, or of a column that it hasn't
+no_match_table : (cells : List Out) → ¬ InsertFits target before before (codes "T") 1 false cells
+unfolding before
+no_match_table cells h = let r = h.rule in omega (arith, r)
+
+no_match_column : ¬ InsertFits target before before (codes "T") 0 false (Column 1 ∷ Literal (codes "z") ∷ [])
+unfolding before
+no_match_column h = let c = (h.outs (Column 1) (here refl)).1 in omega (arith, c)
