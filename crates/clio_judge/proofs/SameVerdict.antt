@@ -20,11 +20,11 @@ use Rattle.clio_judge.specs.Judging.{judged, judged_rows}
 module _ (convert : Conversions) (M : Mapping) (used : Marks) (I J K : List TableRows) (uses : Each M.rules (UsesOnly used)) (agree : AgreeOnUsed used (facts I) (facts J)) where
   verdict_for : (v : Verdict) → IsJudgement convert (judged ((M, J), K)) v → IsJudgement convert (judged ((M, I), K)) v
   verdict_for v x =
-      let are = same_rows convert used M.rules (facts J) (facts I) x.rows uses (agree.1, agree.0) x.are in record {
-        rows = x.rows;
+      let are = same_rows convert used M.rules (facts J) (facts I) x.matches uses (agree.1, agree.0) x.are in record {
+        matches = x.matches;
         are = are;
         within = x.within;
-        verdict = verdict_by_matches convert (judged ((M, J), K)) (facts I) x.rows v x.are are x.verdict;
+        verdict = verdict_by_matches convert (judged ((M, J), K)) (facts I) x.matches v x.are are x.verdict;
       }
 
   none_for : (e : JudgeFault) → HasNoVerdict convert (judged ((M, J), K)) e → HasNoVerdict convert (judged ((M, I), K)) e

@@ -130,7 +130,7 @@ clash_there P mode c h =
         → (k : Clash) × (exchanging P.apply).refuses c (exchange_input mode (h.mapping, h.rows)) (exchange_faults.Clash k)
     of (inl (e, x)) = absurd (h.none (facts e.target) x.universal.solution)
     of (inr (exchange_faults.Clash k, x)) = (k, x)
-    of (inr (exchange_faults.Limit l, x)) = let few = h.within x.rows x.are in let many = x.many in absurd (omega (arith, few, many))
+    of (inr (exchange_faults.Limit l, x)) = let few = h.within x.matches x.are in let many = x.many in absurd (omega (arith, few, many))
     of (inr (exchange_faults.Memory, x)) = absurd x
 
 -- so the exchange is refused

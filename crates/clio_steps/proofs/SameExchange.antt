@@ -49,15 +49,15 @@ made_for P mode M used I J e uses agree x = record {
 none_for : (P : Program) (mode : Mode) (M : Mapping) (used : Marks) (I J : List TableRows) (fault : ExFault) → Each M.rules (UsesOnly used)
     → AgreeOnUsed used (facts I) (facts J) → HasNoExchange P.apply (exchange_input mode (M, J)) fault → HasNoExchange P.apply (exchange_input mode (M, I)) fault
 none_for P mode M used I J (faults.Clash c) uses agree x = record {
-  rows = x.rows;
-  are = same_rows P.apply used M.rules (facts J) (facts I) x.rows uses (agree.1, agree.0) x.are;
+  matches = x.matches;
+  are = same_rows P.apply used M.rules (facts J) (facts I) x.matches uses (agree.1, agree.0) x.are;
   within = x.within;
   clash = x.clash;
   no_solution = λ K s. x.no_solution K (same_solutions P.apply used M.rules (model_tables M.target) (facts I) (facts J) K uses agree s);
 }
 none_for P mode M used I J (faults.Limit l) uses agree x = record {
-  rows = x.rows;
-  are = same_rows P.apply used M.rules (facts J) (facts I) x.rows uses (agree.1, agree.0) x.are;
+  matches = x.matches;
+  are = same_rows P.apply used M.rules (facts J) (facts I) x.matches uses (agree.1, agree.0) x.are;
   many = x.many;
   said = x.said;
 }

@@ -60,7 +60,7 @@ either_of P c M I m (J, read, is) few =
       within = few;
       none = x.no_solution;
     })
-    of source (inr (exchange_faults.Limit l, x)) = let fewer = few x.rows x.are in let many = x.many in absurd (omega (arith, fewer, many))
+    of source (inr (exchange_faults.Limit l, x)) = let fewer = few x.matches x.are in let many = x.many in absurd (omega (arith, fewer, many))
     of source (inr (exchange_faults.Memory, x)) = absurd x
 
 -- the two are of one mapping and of the same rows

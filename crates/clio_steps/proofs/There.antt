@@ -28,7 +28,7 @@ exchange_there P mode c h =
         → (e : Exchange) × IsExchange P.apply (exchange_input mode (h.mapping, h.rows)) e
     of (inl x) = x
     of (inr (exchange_faults.Clash k, x)) = absurd (x.no_solution h.solution h.solves)
-    of (inr (exchange_faults.Limit l, x)) = let few = h.within x.rows x.are in let many = x.many in absurd (omega (arith, few, many))
+    of (inr (exchange_faults.Limit l, x)) = let few = h.within x.matches x.are in let many = x.many in absurd (omega (arith, few, many))
     of (inr (exchange_faults.Memory, x)) = absurd x
 
 -- so its exchange is passed on, beside its mapping

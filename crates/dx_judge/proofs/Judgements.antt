@@ -137,11 +137,11 @@ module _ (convert : Conversions) (list : List Conversion) (source : List Table) 
       none : (e : ExchangeInput) → e.rules ≡ a.rules → e.schema ≡ a.schema → e.rows ≡ a.rows → e.limit ≡ canonical_cells a.rules rows_there.0
           → (f : ExFault) → NoExchange convert e f → ⊥
       none e r s i l (ex.Limit k) n =
-          let same : n.rows ≡ rows_there.0 =
-          (rows_of_all convert a.rules a.rows n.rows rows_there.0 (subst (λ (R : List Rule). AreRows convert R a.rows n.rows) r
-          (subst (λ (I : List Fact). AreRows convert e.rules I n.rows) i n.are)) rows_there.1).0 in
-          let cells : canonical_cells e.rules n.rows ≡ canonical_cells a.rules rows_there.0 =
-          ap (λ (R : List Rule). canonical_cells R n.rows) r ∙ ap (canonical_cells a.rules) same in
+          let same : n.matches ≡ rows_there.0 =
+          (rows_of_all convert a.rules a.rows n.matches rows_there.0 (subst (λ (R : List Rule). AreRows convert R a.rows n.matches) r
+          (subst (λ (I : List Fact). AreRows convert e.rules I n.matches) i n.are)) rows_there.1).0 in
+          let cells : canonical_cells e.rules n.matches ≡ canonical_cells a.rules rows_there.0 =
+          ap (λ (R : List Rule). canonical_cells R n.matches) r ∙ ap (canonical_cells a.rules) same in
           let more = n.many in
           omega (arith, cells, more, l)
       none e r s i l (ex.Clash c) n =
@@ -229,8 +229,8 @@ judged_or_limit convert list source = notions_decided AreSameFault (InputFits li
 
     never : (a : JudgeInput) (v : Verdict) (e : JudgeFault) → InputFits list source a → IsJudgement convert a v → ¬ (HasNoVerdict convert a e)
     never a v (faults.Limit l) g is n =
-        let same = (rows_of_all convert a.rules a.rows n.1.rows is.rows n.1.are is.are).0 in
-        let cells : canonical_cells a.rules n.1.rows ≡ canonical_cells a.rules is.rows = ap (canonical_cells a.rules) same in
+        let same = (rows_of_all convert a.rules a.rows n.1.rows is.matches n.1.are is.are).0 in
+        let cells : canonical_cells a.rules n.1.rows ≡ canonical_cells a.rules is.matches = ap (canonical_cells a.rules) same in
         let more = n.1.more in
         let few = is.within in
         omega (arith, cells, more, few)
@@ -247,6 +247,6 @@ judged_or_limit convert list source = notions_decided AreSameFault (InputFits li
           )
           | inr few ↦ let v = each_has_verdict convert list source a g in inl (
             v.0,
-            record { rows = r.0; are = r.1; within = few; verdict = v.1 },
+            record { matches = r.0; are = r.1; within = few; verdict = v.1 },
           )
         ]

@@ -163,4 +163,4 @@ canonical_refused convert a canon.Memory k = inl refl
 pub judgement : (convert : Conversions) (R : List Rule) (schema : List Table) (I : List Fact) (G : List TableRows) (limit : ℕ) (M : Rows) (v : Verdict)
     → AreRows convert R I M → canonical_cells R M ≤ limit → IsVerdict convert (judged R schema I G limit) v
     → World → IsJudgement convert (judged R schema I G limit) v
-judgement convert R schema I G limit M v are few is world = record { rows = M; are = are; within = few; verdict = is }
+judgement convert R schema I G limit M v are few is world = record { matches = M; are = are; within = few; verdict = is }
