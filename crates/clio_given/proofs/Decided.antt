@@ -3,7 +3,7 @@ use Rattle.std.proofs.Common.{◌≡◌, ◌∙◌, ◌⊎◌, ℕ, zero, suc, �
 use Rattle.std.specs.Prelude.{Bool, if◌then◌else◌, nat_lt, slice_get}
 use Rattle.std.specs.List.{AllZip, range_with_len}
 use Rattle.std.proofs.lemmas.Bool.{cases_Bool, cases_eq, cases_lt, eqb-true, false≢true}
-use Rattle.dx_ports.specs.Members.{◌∈◌, ◌⊆◌, here, there, Each}
+use Rattle.dx_ports.specs.Members.{◌∈◌, here, there, Each}
 use Rattle.dx_ports.proofs.Members.{from_append, from_map}
 use Rattle.dx_ports.proofs.Ranges.{from_range}
 use Rattle.dx_model.specs.declared.facts.Fact.{Fact}
@@ -13,9 +13,9 @@ use Rattle.dx_model.specs.Values.{row_cmp}
 use Rattle.dx_model.proofs.Ascending.{one_ascending}
 use Rattle.dx_model.proofs.Decided.{same_list}
 use Rattle.dx_instance.specs.Stored.{TableRows, rows_of}
-use Rattle.dx_instance.specs.ValueText.{ValueFits, const_text, null_text, question_mark, starts_with_question_mark, value_text_of}
+use Rattle.dx_instance.specs.ValueText.{ValueFits, null_text, question_mark, starts_with_question_mark, value_text_of}
 use Rattle.dx_instance.proofs.Placed.{row_total}
-use Rattle.dx_instance.proofs.StoredFacts.{fact_from_row, row_from_fact, same_tables}
+use Rattle.dx_instance.proofs.StoredFacts.{same_tables}
 use Rattle.dx_instance.proofs.TextFacts.{texts_differ}
 use Rattle.dx_instance.proofs.NoTexts.{plain_text, marked_text}
 use Rattle.dx_schema.specs.Forest.{Forest}
@@ -24,17 +24,16 @@ use Rattle.dx_csv.specs.Table.{table_records}
 use Rattle.dx_csv.proofs.Decided.{table_or_fault}
 use Rattle.dx_csv.proofs.OneReading.{fault-is-one, faults-exclude, table-is-one}
 use Rattle.dx_stages.specs.Worlds.{World}
-use Rattle.dx_stages.specs.Stages.{Stage, by, computing, each, next, notions, over}
+use Rattle.dx_stages.specs.Stages.{Stage, computing, each, next, notions, over}
 use Rattle.dx_stages.specs.Laws.{IsDecided, PassesOne}
-use Rattle.dx_stages.proofs.Decided.{Any, by_decided, by_one, computing_decided, computing_one, each_decided, each_one, file_decided, file_one, into_decided, into_one, next_decided, next_one, notions_decided, over_decided, over_one, weaker}
+use Rattle.dx_stages.proofs.Decided.{Any, by_decided, by_one, computing_decided, computing_one, each_decided, each_one, next_decided, next_one, notions_decided, over_decided, over_one, weaker}
 use Rattle.clio_source.specs.declared.fault.RowsFault.{RowsFault}
-use Rattle.clio_source.specs.declared.fault.RowsFault.TheVariants.{Absent, Csv, Value as NoValue}
+use Rattle.clio_source.specs.declared.fault.RowsFault.TheVariants.{Csv, Value as NoValue}
 use Rattle.clio_source.specs.declared.fault.SourceRefusal.{SourceRefusal}
 use Rattle.clio_source.specs.declared.fault.SourceRefusal.TheVariants as refusals
-use Rattle.clio_source.specs.Source.{IsStored, ReadState, as_facts, fact_cells, fetching, too_many_bytes}
+use Rattle.clio_source.specs.Source.{IsStored, ReadState, as_facts, fact_cells, fetching}
 use Rattle.clio_source.proofs.Decided.{some_stored, row_of_both, fetching_decided, fetching_one}
 use Rattle.clio_source.proofs.Passed.{AreOf}
-use Rattle.clio_source.proofs.Runs.{its_file}
 use Rattle.clio_given.specs.Given.{AreValuesOf, IsGivenRowsFault, IsGivenFault, IsFirstNoRow, IsNoRow, IsValueOf, SayRows, SaysGivenRows, TargetRequest, given_files_stages, given_name, given_loading, none_read, given_reading, given_storing, too_many_given_cells, with_given_facts}
 use Rattle.clio_given.specs.Laws.{GivenOrRefused, OneGiven}
 

@@ -1,5 +1,5 @@
 -- Values of fields: a field's, a row's, and those of all rows.
-use Rattle.std.proofs.Common.{◌≡◌, ◌∙◌, ℕ, suc, ◌+◌, ◌<◌, ◌≤◌, List, [], ◌∷◌, ◌++◌, inl, inr, refl, sym, ap, subst, arith, length, get_or, take, Option, Some, None, Result, Ok, Err, append-nil}
+use Rattle.std.proofs.Common.{◌≡◌, ◌∙◌, ℕ, suc, ◌+◌, ◌<◌, ◌≤◌, List, [], ◌∷◌, ◌++◌, inl, inr, refl, sym, ap, subst, arith, length, get_or, take, Option, Some, None, Result, Ok, Err}
 use Rattle.std.specs.Prelude.{map, All, IfOk, IfSome, MatchOption, slice_get}
 use Rattle.std.specs.List.{AllZip}
 use Rattle.std.specs.declared.alloc.AllocError.{AllocError}
@@ -20,11 +20,6 @@ use Rattle.dx_csv.specs.Table.{AreTableRecords, IsWholeRecord}
 use Rattle.dx_model.specs.Values.{constants}
 use Rattle.clio_given.specs.Given.{IsFirstNoRow, IsNoRow, IsValueOf}
 use Rattle.clio_given.specs.Reading.{AreShown}
-
--- ---- options, and symbols
-
-pub extends_none : (S : List Value) → Extends S S
-extends_none S = record { more = []; is = sym (append-nil S) }
 
 -- ---- one field
 

@@ -1,6 +1,6 @@
 -- Constants that are blank in the columns that are not used.
-use Rattle.std.proofs.Common.{◌≡◌, ◌∷◌, ◌<◌, ◌∙◌, ℕ, zero, suc, List, [], Bool, true, false, refl, ap, arith, length, get_or}
-use Rattle.std.specs.Prelude.{cond, ◌||◌}
+use Rattle.std.proofs.Common.{◌≡◌, ◌∷◌, ◌<◌, ◌∙◌, ℕ, zero, suc, List, [], Bool, true, false, ap, arith, length, get_or}
+use Rattle.std.specs.Prelude.{cond}
 use Rattle.std.specs.List.{list_any}
 use Rattle.std.proofs.lemmas.List.{get_or-map, length-map}
 use Rattle.dx_ports.specs.Members.{◌∈◌, here, there}

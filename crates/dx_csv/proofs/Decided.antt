@@ -1,9 +1,10 @@
 -- Records are a table, or they have a fault.
-use Rattle.std.proofs.Common.{◌≡◌, ◌≢◌, ◌∙◌, ◌+◌, ◌++◌, ◌∷◌, ℕ, zero, suc, List, [], Some, None, refl, sym, ap, inl, inr, Option, arith, length, map}
+use Rattle.std.proofs.Common.{◌≡◌, ◌≢◌, ◌∙◌, ◌+◌, ◌++◌, ◌∷◌, ℕ, zero, suc, List, [], refl, sym, ap, inl, inr, arith, length, map}
 use Rattle.std.specs.Prelude.{All, ◌⊎◌}
 use Rattle.std.specs.Str.{is_utf8}
 use Rattle.std.specs.Cmp.Lexicographic.{pointwise, bytes_decides}
 use Rattle.std.proofs.lemmas.Bool.{cases_Bool, cases_eq, true≢false}
+use Rattle.std.proofs.lemmas.Option.{none-some, same_Some}
 use Rattle.std.proofs.lemmas.Str.{IsUtf8-from_is_utf8, is_utf8-from_IsUtf8}
 use Rattle.std.specs.Prelude.{nat_eq}
 use Rattle.csv.specs.Records.{AllText}
@@ -66,23 +67,17 @@ all_or_wrong columns (x ∷ under) = elim (whole_or_wrong columns x) [
 
 -- ---- the header
 
-none_some : (x : List ℕ) → ◌≡◌ {A = Option (List ℕ)} None (Some x) → ⊥
-none_some x e = cc e
-
-some_same : (x y : List ℕ) → ◌≡◌ {A = Option (List ℕ)} (Some x) (Some y) → x ≡ y
-some_same x y e = cc
-
 differ_further : (x y : List ℕ) (xs ys : List (List ℕ)) → x ≡ y → (xs ≡ ys) ⊎ ((place : ℕ) × FirstDifference xs ys place) → ((x ∷ xs) ≡ (y ∷ ys)) ⊎ ((place : ℕ) × FirstDifference (x ∷ xs) (y ∷ ys) place)
 differ_further x y xs ys e (inl f) = inl cc
 differ_further x y xs ys e (inr d) = inr (suc d.0, record { before = rw e (ap (λ (zs : List (List ℕ)). y ∷ zs) d.1.before); here = d.1.here })
 
 same_or_differ : (xs ys : List (List ℕ)) → (xs ≡ ys) ⊎ ((place : ℕ) × FirstDifference xs ys place)
 same_or_differ [] [] = inl refl
-same_or_differ [] (y ∷ ys) = inr (0, record { before = refl; here = none_some y })
-same_or_differ (x ∷ xs) [] = inr (0, record { before = refl; here = λ e. none_some x (sym e) })
+same_or_differ [] (y ∷ ys) = inr (0, record { before = refl; here = none-some y })
+same_or_differ (x ∷ xs) [] = inr (0, record { before = refl; here = λ e. none-some x (sym e) })
 same_or_differ (x ∷ xs) (y ∷ ys) = elim (cases_Bool (pointwise nat_eq x y)) [
   | inl t ↦ differ_further x y xs ys ((bytes_decides x y).0 t) (same_or_differ xs ys)
-  | inr f ↦ inr (0, record { before = refl; here = λ e. true≢false (sym ((bytes_decides x y).1 (some_same x y e)) ∙ f) })
+  | inr f ↦ inr (0, record { before = refl; here = λ e. true≢false (sym ((bytes_decides x y).1 (same_Some x y e)) ∙ f) })
 ]
 
 -- ---- the whole

@@ -1,6 +1,7 @@
 -- One record more of a table: what is left after it.
 use Rattle.std.proofs.Common.{◌≡◌, ◌<◌, ◌≤◌, ◌+◌, ◌∷◌, ◌∙◌, ℕ, zero, suc, List, [], Bool, true, false, Some, None, refl, ap, subst, inl, inr, arith, length, ◌==◌, add-one}
 use Rattle.std.proofs.lemmas.Bool.{cases_Bool, eqb-true}
+use Rattle.std.proofs.lemmas.Option.{same_Some}
 use Rattle.std.specs.Prelude.{Option, if◌then◌else◌, ◌||◌}
 use Rattle.csv.specs.Machine.{Read, next_record, ends_at_end, in_field, start_field, start_record, is_end, step}
 use Rattle.csv.specs.Reading.{Reached, ReadRecord, default_config, records_from, records_next, reader_state, took_first, is_flexible}
@@ -54,18 +55,15 @@ record Shrinks (xs : List ℕ) (p : Read) : Type 0 where
   less : length p.2 ≤ length xs
   between : ends_at_end p.1 ≡ false
 
-some-is : (a p : Read) → ◌≡◌ {A = Option Read} (Some a) (Some p) → a ≡ p
-some-is a p e = cc e
-
 -- what is read at the end of a text
 at-end : (b : Bool) (x p : Read) → (if b then Some x else None) ≡ Some p → x ≡ p
-at-end true x p e = some-is x p e
+at-end true x p e = same_Some x p e
 at-end false x p e = cc e
 
 -- what one byte more gives
 on-byte : (b : Bool) (x p : Read) (more : Option Read) (xs : List ℕ) → (b ≡ true → Shrinks xs x) → (more ≡ Some p → Shrinks xs p)
     → (if b then Some x else more) ≡ Some p → Shrinks xs p
-on-byte true x p more xs here later e = subst (Shrinks xs) (some-is x p e) (here refl)
+on-byte true x p more xs here later e = subst (Shrinks xs) (same_Some x p e) (here refl)
 on-byte false x p more xs here later e = later e
 
 longer : (c : ℕ) (xs : List ℕ) (p : Read) → Shrinks xs p → Shrinks (c ∷ xs) p

@@ -1,10 +1,10 @@
 -- Steps of a load: the fields met so far, and the records met so far.
 use Rattle.std.proofs.Common.{◌≡◌, ◌≢◌, ◌∙◌, ◌+◌, ◌<◌, ◌++◌, ◌∷◌, ℕ, zero, suc, List, [], Some, None, refl, sym, ap, arith, length, take, get_or, map, append_assoc, append-nil}
-use Rattle.std.specs.Prelude.{All, Option}
+use Rattle.std.specs.Prelude.{All}
 use Rattle.std.specs.List.{slice_get}
 use Rattle.std.proofs.lemmas.List.{take_more, take_all, length-take, length-append, map-append}
 use Rattle.std.proofs.lemmas.List.Elements.{All-append, All-nil, All-cons}
-use Rattle.std.proofs.lemmas.Option.{slice_get_past, slice_get-get_or, get_or_from_slice_get, slice_get_within, slice_get_read}
+use Rattle.std.proofs.lemmas.Option.{none-some, same_Some, slice_get_past, slice_get-get_or, get_or_from_slice_get, slice_get_within, slice_get_read}
 use Rattle.csv.specs.Records.{field_at}
 use Rattle.dx_model.specs.declared.values.Value.{Value}
 use Rattle.dx_model.specs.declared.values.Value.TheVariants.{Const}
@@ -27,22 +27,16 @@ agree-more xs ys i h g e f = take_more xs i [] h ∙ (rw (e, f) (sym (take_more 
 pub agree-all : (xs ys : List (List ℕ)) → length xs ≡ length ys → take (length ys) xs ≡ take (length ys) ys → xs ≡ ys
 agree-all xs ys n e = sym (take_all (length ys) xs (omega arith)) ∙ (e ∙ take_all (length ys) ys (omega arith))
 
-no-some : {X : Type 0} (x : X) → ◌≡◌ {A = Option X} None (Some x) → ⊥
-no-some x e = cc e
-
 pub differ-ended : (xs ys : List (List ℕ)) (i : ℕ) → i < length ys → take i xs ≡ take i ys → None ≡ field_at xs i → FirstDifference xs ys i
 differ-ended xs ys i h e n = record {
   before = e;
-  here = λ same. no-some (get_or ys i []) (n ∙ (field_at-slice_get xs i ∙ (same ∙ slice_get-get_or ys i [] h)));
+  here = λ same. none-some (get_or ys i []) (n ∙ (field_at-slice_get xs i ∙ (same ∙ slice_get-get_or ys i [] h)));
 }
-
-some-same : {X : Type 0} (x y : X) → ◌≡◌ {A = Option X} (Some x) (Some y) → x ≡ y
-some-same x y e = cc e
 
 pub differ-here : (xs ys : List (List ℕ)) (i : ℕ) (x : List ℕ) → i < length ys → take i xs ≡ take i ys → Some x ≡ field_at xs i → x ≢ get_or ys i [] → FirstDifference xs ys i
 differ-here xs ys i x h e f n = record {
   before = e;
-  here = λ same. n (some-same x (get_or ys i []) (f ∙ (field_at-slice_get xs i ∙ (same ∙ slice_get-get_or ys i [] h))));
+  here = λ same. n (same_Some x (get_or ys i []) (f ∙ (field_at-slice_get xs i ∙ (same ∙ slice_get-get_or ys i [] h))));
 }
 
 pub differ-after : (xs ys : List (List ℕ)) → length xs ≢ length ys → take (length ys) xs ≡ take (length ys) ys → FirstDifference xs ys (length ys)
@@ -53,7 +47,7 @@ differ-after xs ys n e =
     let more : length ys < length xs = omega arith in
     record {
       before = e;
-      here = λ same. no-some (get_or xs (length ys) []) (sym (slice_get_past ys (length ys) (omega arith)) ∙ (sym same ∙ slice_get-get_or xs (length ys) [] more));
+      here = λ same. none-some (get_or xs (length ys) []) (sym (slice_get_past ys (length ys) (omega arith)) ∙ (sym same ∙ slice_get-get_or xs (length ys) [] more));
     }
 
 pub agree-next : (xs ys : List (List ℕ)) (i : ℕ) (x : List ℕ) → i < length ys → take i xs ≡ take i ys → Some x ≡ field_at xs i → x ≡ get_or ys i [] → take (i + 1) xs ≡ take (i + 1) ys

@@ -4,7 +4,6 @@ use Rattle.std.specs.List.{slice_get}
 use Rattle.csv.specs.Records.{AllText}
 use Rattle.csv.specs.Reading.{default_config, strip_bom, records as records_of}
 use Rattle.dx_model.specs.declared.values.Value.{Value}
-use Rattle.dx_model.specs.declared.values.Value.TheVariants.{Const}
 use Rattle.dx_model.specs.Values.{constants}
 use Rattle.dx_csv.specs.declared.fault.RowFault.{RowFault}
 use Rattle.dx_csv.specs.declared.fault.RowFault.TheVariants as fault

@@ -1,13 +1,14 @@
 use Rattle.dx_ports.proofs.Members.{item_in}
 use Rattle.dx_ports.proofs.Options.{some_left, none_left}
+use Rattle.dx_instance.proofs.NumberFacts.{stays}
 use Rattle.dx_instance.proofs.ShownFacts.{extends_both}
-use Rattle.clio_given.proofs.Parsed.{all_numbered, extends_none, no_row, none_numbered, numbered_more}
+use Rattle.clio_given.proofs.Parsed.{all_numbered, no_row, none_numbered, numbered_more}
 use Rattle.clio_given.proofs.values.number_row.Goals as goal
 
 pub loop-field-init : goal.loop-field-init
 loop-field-init c = record {
   numbered = none_numbered c.args.fields.now c.args.symbols.now c.clear.new.self.items c.clear.ensures.items;
-  grows = extends_none c.args.symbols.now;
+  grows = stays c.args.symbols.now;
 }
 
 pub returns-in_default-clause-values : goal.returns-in_default-clause-values

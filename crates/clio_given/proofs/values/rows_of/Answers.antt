@@ -2,14 +2,15 @@ use Rattle.std.proofs.Common.{◌∙◌, ◌+◌, ◌<◌, ℕ, ap, arith, lengt
 use Rattle.std.proofs.lemmas.Option.{slice_get-get_or}
 use Rattle.dx_ports.proofs.Members.{item_in}
 use Rattle.dx_model.specs.declared.values.Value.{Value}
+use Rattle.dx_instance.proofs.NumberFacts.{stays}
 use Rattle.dx_instance.proofs.ShownFacts.{extends_both}
-use Rattle.clio_given.proofs.Parsed.{all_made, extends_none, first_no_row, made_more, none_made, numbers_wide}
+use Rattle.clio_given.proofs.Parsed.{all_made, first_no_row, made_more, none_made, numbers_wide}
 use Rattle.clio_given.proofs.values.rows_of.Goals as goal
 
 pub loop-place-init : goal.loop-place-init
 loop-place-init c = record {
   made = none_made c.args.records.now c.args.symbols.now c.args.width c.new-rows.result c.new-rows.ensures;
-  grows = extends_none c.args.symbols.now;
+  grows = stays c.args.symbols.now;
 }
 
 pub returns-then-not-branch-clause-fault : goal.returns-then-not-branch-clause-fault
