@@ -3,7 +3,7 @@ ghost use Rattle.std.specs.Prelude.{◌≡◌, ◌≤◌, ◌-◌, ◌<◌, ◌^
 ghost use Rattle.std.specs.Int.{to_be_bytes, w64};
 ghost use Rattle.dx_ports.specs.Members.{Each};
 ghost use Rattle.dx_model.specs.declared.values.Value.TheVariants.{Const};
-ghost use Rattle.dx_instance.specs.Keys.{AreSmall, IsSmallSecond, IsSmallValue, NumbersAreKeyed, ValuesAreKeyed, packed, places_of, second_key, value_key};
+ghost use Rattle.dx_instance.specs.Keys.{AreSmall, IsKeyIn, IsSmallSecond, IsSmallValue, NumbersAreKeyed, ValuesAreKeyed, packed, places_of, second_key, value_key};
 ghost use Rattle.dx_instance.specs.Numbers.{IsOrdering, value_of};
 ghost use Rattle.dx_instance.specs.Ranks.{AreDistinct, AreEnds, AreLengths, IsShortLength, LiesInBuffer, joined_texts, text_of_value};
 
@@ -143,9 +143,7 @@ fn push_text(
     key: u64,
     size: u8,
 ) -> Result<(), AllocError>
-    requires below { number < length symbols.now }
-    requires key { key ≡ value_key (value_of symbols.now number) }
-    requires small { IsSmallValue (value_of symbols.now number) }
+    requires key { IsKeyIn symbols.now (key, number) }
     requires size { IsShortLength (value_of symbols.now number) size }
     ensures { OnOk result (buffer.new.items ≡ buffer.old.items ++ text_of_value (value_of symbols.now number)) }
 {

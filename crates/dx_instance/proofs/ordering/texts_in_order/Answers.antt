@@ -10,14 +10,13 @@ bounds-lengths-key c =
     let b = key_below _ c.args.keys.now c.loop-key.key-index c.requires.below c.loop-key-test.true in
     omega (arith, b, c.requires.lengths.many)
 
-pub push_text-requires-clause-below : goal.push_text-requires-clause-below
-push_text-requires-clause-below c = key_below _ c.args.keys.now c.loop-key.key-index c.requires.below c.loop-key-test.true
-
 pub push_text-requires-clause-key : goal.push_text-requires-clause-key
-push_text-requires-clause-key c = (c.requires.keyed c.loop-key.key-index c.loop-key-test.true).key_is
-
-pub push_text-requires-clause-small : goal.push_text-requires-clause-small
-push_text-requires-clause-small c = (c.requires.keyed c.loop-key.key-index c.loop-key-test.true).small
+push_text-requires-clause-key c =
+    let k = c.requires.keyed c.loop-key.key-index c.loop-key-test.true in
+    record {
+      below = key_below _ c.args.keys.now c.loop-key.key-index c.requires.below c.loop-key-test.true;
+      keyed = record { key_is = k.key_is; place_is = refl; small = k.small };
+    }
 
 pub push_text-requires-clause-size : goal.push_text-requires-clause-size
 push_text-requires-clause-size c = c.requires.lengths.all _ (key_below _ c.args.keys.now c.loop-key.key-index c.requires.below c.loop-key-test.true)
