@@ -8,14 +8,12 @@ use Rattle.std.proofs.lemmas.List.{length-map, get_or-map, get_or_default, take_
 use Rattle.std.proofs.lemmas.List.FromFn.{length-range_with_len}
 use Rattle.dx_ports.specs.Members.{◌∈◌, here, there, Each}
 use Rattle.dx_ports.proofs.Loops.{each_more}
-use Rattle.dx_ports.proofs.Members.{in_at, in_map, from_map, in_left, in_right, from_append}
+use Rattle.dx_ports.proofs.Members.{in_map, from_map, in_left, in_right, from_append}
 use Rattle.dx_ports.proofs.Ranges.{from_range, to_range}
 use Rattle.dx_model.specs.declared.values.NullId.{NullId}
 use Rattle.dx_model.specs.declared.values.Value.{Value}
 use Rattle.dx_model.specs.declared.values.Value.TheVariants.{Const, Null}
-use Rattle.dx_model.specs.declared.facts.Fact.{Fact}
-use Rattle.dx_model.specs.Values.{Ascends, NullsAscend, null_cmp, value_cmp, null_at}
-use Rattle.dx_instance.specs.Cells.{NumberTable, numbers_at}
+use Rattle.dx_model.specs.Values.{NullsAscend, null_cmp, value_cmp, null_at}
 use Rattle.dx_instance.specs.Numbers.{ValuesAscend, value_of}
 use Rattle.dx_instance.specs.Shown.{NumberedInstance, PartsFit, AreBelow, numbers_of_table, shown_row, shown_tables}
 use Rattle.dx_instance.proofs.ShownFacts.{row_shown, numbers_below, fits_in}

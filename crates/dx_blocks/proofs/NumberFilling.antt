@@ -2,7 +2,7 @@
 use Rattle.std.proofs.Common.{◌≡◌, ℕ, zero, suc, ◌+◌, ◌-◌, ◌<◌, ◌≤◌, List, [], ◌∷◌, ◌++◌, inl, inr, refl, sym, ◌∙◌, ap, subst, arith}
 use Rattle.std.proofs.Common.{length, get_or, set, take, drop, map, replicate, take-append-drop}
 use Rattle.std.proofs.lemmas.Bool.{cases_eq}
-use Rattle.std.proofs.lemmas.List.{length-map, get_or-map, get_or_default, map-set, map_push, take_more, take_all, length-replicate, get_or-replicate}
+use Rattle.std.proofs.lemmas.List.{length-map, get_or-map, get_or_default, map-set, map_push, take_more, take_all}
 use Rattle.dx_ports.specs.Members.{◌∈◌, here, there, Each}
 use Rattle.dx_ports.proofs.Members.{in_at, in_flat_map, from_flat_map, from_append, in_left, in_right}
 use Rattle.dx_ports.proofs.Lists.{cut_at}
@@ -13,12 +13,12 @@ use Rattle.dx_model.specs.declared.facts.Fact.{Fact}
 use Rattle.dx_model.specs.Values.{FactsAscend, null_cmp, null_at}
 use Rattle.std.specs.declared.cmp.Ordering.TheVariants.{Less}
 use Rattle.dx_model.specs.Instances.{values}
-use Rattle.dx_instance.specs.Shown.{NumberedInstance, PartsFit, shown_row}
+use Rattle.dx_instance.specs.Shown.{NumberedInstance, PartsFit}
 use Rattle.dx_blocks.specs.declared.block.Block.{Block}
 use Rattle.dx_blocks.specs.declared.numbered.At.{At}
 use Rattle.dx_blocks.specs.declared.numbered.NumberBlock.{NumberBlock}
 use Rattle.dx_blocks.specs.Nulls.{StandsIn}
-use Rattle.dx_blocks.specs.Labels.{AreFilled, AreLabels, HasLabel, HoldsLabel, block_at}
+use Rattle.dx_blocks.specs.Labels.{AreFilled, AreLabels, HoldsLabel, block_at}
 use Rattle.dx_blocks.specs.Numbered.{IsNullNumber, IsOfNumbers, IsRowIn, fact_of, null_under, shown_block}
 use Rattle.dx_blocks.specs.NullRows.{AreBlocksOfRows, IsFirstNull, facts_of, nulls_from, row_numbers, shown_blocks}
 use Rattle.dx_blocks.proofs.Connections.{connected_there}

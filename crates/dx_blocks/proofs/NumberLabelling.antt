@@ -1,6 +1,6 @@
 -- The nulls of rows joined in trees by their numbers.
-use Rattle.std.proofs.Common.{◌≡◌, ℕ, ◌+◌, ◌-◌, ◌<◌, ◌≤◌, List, [], inl, inr, refl, sym, ◌∙◌, ap, subst, arith}
-use Rattle.std.proofs.Common.{length, get_or, take, map}
+use Rattle.std.proofs.Common.{◌≡◌, ℕ, ◌+◌, ◌-◌, ◌<◌, ◌≤◌, List, [], inl, inr, sym, ◌∙◌, ap, subst, arith}
+use Rattle.std.proofs.Common.{length, get_or, take}
 use Rattle.std.proofs.lemmas.Bool.{cases_lt}
 use Rattle.std.proofs.lemmas.List.{length-map, get_or-map, get_or_past}
 use Rattle.dx_ports.specs.Members.{◌∈◌, Each}
@@ -16,11 +16,11 @@ use Rattle.dx_blocks.specs.declared.numbered.At.{At}
 use Rattle.dx_blocks.specs.Nulls.{StandsIn}
 use Rattle.dx_model.specs.Values.{null_at}
 use Rattle.dx_blocks.specs.Forest.{IsTreeUnion}
-use Rattle.dx_blocks.specs.Labels.{JoinsRow, JoinsAll}
+use Rattle.dx_blocks.specs.Labels.{JoinsRow}
 use Rattle.dx_blocks.specs.Numbered.{IsRowIn, fact_of, null_under}
 use Rattle.dx_blocks.specs.NullRows.{IsFirstNull, facts_of, nulls_from, row_numbers}
 use Rattle.dx_blocks.proofs.Labelling.{RowSoFar, AllSoFar, Knows, null_more, no_null_more, row_joined, fact_joined, fact_passed}
-use Rattle.dx_blocks.proofs.NullRowFacts.{nulls_at, nulls_many, nulls_up, row_is, row_below, row_known}
+use Rattle.dx_blocks.proofs.NullRowFacts.{nulls_at, nulls_many, nulls_up, row_is, row_known}
 
 none_there : (x : ℕ) → x ∈ [] → ⊥
 none_there x m = elim m [ ]

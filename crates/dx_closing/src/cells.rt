@@ -1,5 +1,5 @@
 // The cells of an atom.
-ghost use Rattle.std.specs.Prelude.{◌≡◌, ◌+◌, ◌<◌, ◌^◌, IfOk, OnOk, length, take};
+ghost use Rattle.std.specs.Prelude.{◌≡◌, ◌+◌, ◌<◌, ◌^◌, IfOk, OnOk, length};
 ghost use Rattle.dx_model.specs.declared.rules.Cell.TheVariants.{Ex};
 ghost use Rattle.dx_model.specs.Solutions.{cells_in};
 ghost use Rattle.dx_model.specs.Tables.{AreWithin};

@@ -1,4 +1,4 @@
-ghost use Rattle.std.specs.Prelude.{◌≡◌, ◌<◌, ◌≤◌, ℕ, ◌&&◌, ◌++◌, IfOk, IsTrue, OnOk, false, List, [], ◌∷◌, length, map};
+ghost use Rattle.std.specs.Prelude.{◌≡◌, ◌≤◌, ◌++◌, IfOk, IsTrue, OnOk, false, List, [], ◌∷◌, length, map};
 ghost use Rattle.std.specs.List.{list_all, list_any};
 ghost use Rattle.dx_model.specs.declared.rules.Atom.{Atom as AtomValue};
 ghost use Rattle.dx_model.specs.declared.rules.Cell.TheVariants.{Var as VarCell, Ex as ExCell};

@@ -6,7 +6,6 @@ ghost use Rattle.dx_model.specs.declared.covers.Cover.{Cover};
 ghost use Rattle.dx_model.specs.Rules.{exported as exported_of};
 ghost use Rattle.dx_model.specs.Covers.{places_by, rule_at, used_maps};
 ghost use Rattle.dx_cover_fold.specs.Matched.{matched_tuples};
-ghost use Rattle.dx_instance.specs.Shown.{numbers_of_table};
 ghost use Rattle.dx_cover.specs.Covering.{covers_of};
 ghost use Rattle.dx_cover_fold.specs.Codes.{RowHasColumn, IsPlanned};
 ghost use Rattle.dx_cover_fold.specs.Found.{AreLeast, AreOfRules, AreOrFirsts, AreOwn, FindsAmong, IndexesCells, IsBegun, images_by};

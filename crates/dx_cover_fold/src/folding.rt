@@ -1,7 +1,6 @@
 // The cover fold.
 ghost use Rattle.std.specs.Prelude.{◌≡◌, ◌<◌, ◌^◌, IfOk, length, map, suc};
 ghost use Rattle.dx_ports.specs.Members.{Each};
-ghost use Rattle.dx_model.specs.declared.values.Value.TheVariants.{Null as NullValue};
 ghost use Rattle.dx_model.specs.Rules.{exported as exported_of};
 ghost use Rattle.dx_model.specs.declared.rules.Cell.TheVariants.{Ex as ExCell};
 ghost use Rattle.dx_model.specs.Covers.{IsPlace, folded, least_cover, value_under};

@@ -1,6 +1,6 @@
 -- Existential variables and the numbers above them; what is asked of an instance.
-use Rattle.std.proofs.Common.{◌≡◌, ◌∙◌, ℕ, zero, suc, ◌+◌, ◌<◌, ◌≤◌, List, [], ◌∷◌, ◌++◌, inl, inr, refl, sym, ap, subst, arith, length, get_or, take}
-use Rattle.std.specs.Prelude.{cond, nat_lt, slice_get, Some}
+use Rattle.std.proofs.Common.{◌≡◌, ◌∙◌, ℕ, suc, ◌+◌, ◌<◌, ◌≤◌, List, [], ◌∷◌, ◌++◌, inl, inr, refl, sym, ap, subst, arith, length, get_or, take}
+use Rattle.std.specs.Prelude.{cond, nat_lt}
 use Rattle.std.proofs.lemmas.Bool.{cases_lt}
 use Rattle.std.proofs.lemmas.Bool.Decides.{nat_tests}
 use Rattle.std.proofs.lemmas.List.{take_more, append-nil}
@@ -15,7 +15,7 @@ use Rattle.dx_model.specs.Rules.{cells_of, exported}
 use Rattle.dx_model.specs.Covers.{after_existential}
 use Rattle.dx_model.specs.Fitting.{AtomsFitWidths}
 use Rattle.dx_model.specs.Values.{Tuple}
-use Rattle.dx_instance.specs.Stored.{TableRows, table_at, widths}
+use Rattle.dx_instance.specs.Stored.{TableRows, widths}
 use Rattle.dx_instance.proofs.ValueNumbers.{wide_at}
 use Rattle.dx_holds.specs.Rooms.{FitsRoom}
 use Rattle.dx_holds.specs.Searching.{AtomsFitInstance}

@@ -1,5 +1,5 @@
 -- A search for values of existential variables.
-use Rattle.std.specs.Prelude.{◌≡◌, ◌↔◌, ℕ, ◌<◌, ◌≤◌, List, [], ◌++◌, Vec, Option, Some, None, drop, length, map, slice_index_or, vec_capacity}
+use Rattle.std.specs.Prelude.{◌≡◌, ◌↔◌, ℕ, ◌<◌, ◌≤◌, List, Vec, Option, Some, None, drop, length, map, vec_capacity}
 use Rattle.std.specs.declared.alloc.Global.{Global}
 use Rattle.dx_ports.specs.Members.{◌∈◌, Distinct, Each, IsPrefix}
 use Rattle.dx_ports.specs.Texts.{Text}

@@ -2,7 +2,7 @@
 ghost use Rattle.std.specs.Prelude.{◌≡◌, ◌↔◌, ◌<◌, ℕ, IsTrue, length};
 ghost use Rattle.dx_ports.specs.Members.{◌∈◌, Each};
 ghost use Rattle.dx_model.specs.Tables.{KeysHold};
-ghost use Rattle.dx_schema.specs.Tables.{model_tables, schema_widths, tables_of, schema_table};
+ghost use Rattle.dx_schema.specs.Tables.{model_tables, schema_widths, schema_table};
 ghost use Rattle.dx_instance.specs.Stored.{facts, rows_of, table_at, widths};
 ghost use Rattle.dx_holds.specs.Columns.{IsFirstLike, RowsDetermine, RowsDiffer, TableHolds};
 

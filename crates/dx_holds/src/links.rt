@@ -1,9 +1,9 @@
 // Whether links hold.
-ghost use Rattle.std.specs.Prelude.{◌≡◌, ◌↔◌, ◌<◌, ℕ, IsTrue, length};
+ghost use Rattle.std.specs.Prelude.{◌≡◌, ◌↔◌, ◌<◌, IsTrue, length};
 ghost use Rattle.dx_ports.specs.Members.{Each};
 ghost use Rattle.dx_model.specs.Tables.{LinksHold};
-ghost use Rattle.dx_schema.specs.Tables.{model_tables, schema_widths, tables_of, schema_table};
-ghost use Rattle.dx_instance.specs.Stored.{facts, rows_of, table_at, widths};
+ghost use Rattle.dx_schema.specs.Tables.{model_tables, schema_widths, schema_table};
+ghost use Rattle.dx_instance.specs.Stored.{facts, table_at, widths};
 ghost use Rattle.dx_holds.specs.Columns.{LinkFitsInstance, RowsLead};
 
 use crate::columns::Seen;

@@ -1,5 +1,5 @@
 // The texts of variables. A tuple has a text for each variable of the atoms, ascending.
-ghost use Rattle.std.specs.Prelude.{◌≡◌, [], ◌∷◌, ◌++◌, ℕ, List, length};
+ghost use Rattle.std.specs.Prelude.{◌≡◌, [], ◌∷◌, ◌++◌, List, length};
 ghost use Rattle.dx_ports.specs.Members.{◌∈◌};
 ghost use Rattle.dx_model.specs.declared.rules.Cell.{Cell as AnyCell};
 ghost use Rattle.dx_model.specs.declared.rules.Cell.TheVariants.{Var};

@@ -1,6 +1,6 @@
 -- Parts of rows, each with the first row that has it.
-use Rattle.std.proofs.Common.{◌≡◌, ◌∙◌, ℕ, zero, suc, ◌+◌, ◌<◌, ◌≤◌, List, [], ◌∷◌, ◌++◌, inl, inr, refl, sym, ap, subst, arith, length, map, get_or}
-use Rattle.std.specs.Prelude.{Bool, true, false, MatchBool, Option, None, Some, slice_index}
+use Rattle.std.proofs.Common.{◌≡◌, ◌∙◌, ℕ, ◌+◌, ◌<◌, ◌≤◌, List, [], ◌∷◌, ◌++◌, inl, inr, refl, sym, ap, subst, arith, length, map, get_or}
+use Rattle.std.specs.Prelude.{Bool, true, false, MatchBool, Some, slice_index}
 use Rattle.std.proofs.lemmas.Bool.{cases_lt}
 use Rattle.std.proofs.lemmas.List.{get_or_append_left, get_or_default, get_or_push, get_or-map, length-append, length-map}
 use Rattle.dx_ports.specs.Members.{◌∈◌, here, there, Each}

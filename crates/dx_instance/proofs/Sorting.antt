@@ -14,18 +14,13 @@ use Rattle.std.proofs.lemmas.List.Sorted.{Contains-permutation, IsPermutation-sy
 use Rattle.std.proofs.lemmas.Map.Lookups.{exact_unsigned}
 use Rattle.dx_ports.specs.Members.{◌≈◌, here, there, Each}
 use Rattle.dx_ports.proofs.Members.{contains_from_in, in_from_contains}
-use Rattle.dx_model.specs.declared.values.NullId.{NullId}
 use Rattle.dx_model.specs.declared.facts.Fact.{Fact}
-use Rattle.dx_model.specs.contracts.values.NullIdOrd.TheImpl.{cmp-value as null_order}
-use Rattle.dx_model.specs.contracts.values.NullIdOrd.TheImpl.Laws.{total-law as null_order_total, matches_eq-law as null_ties}
-use Rattle.dx_model.specs.contracts.values.NullIdEq.TheImpl.Laws.{laws-law as null_equiv}
-use Rattle.dx_model.specs.contracts.values.NullIdPartialEq.TheImpl.{eq-value as null_same}
 use Rattle.dx_model.specs.contracts.facts.FactOrd.TheImpl.{cmp-value as fact_order}
 use Rattle.dx_model.specs.contracts.facts.FactOrd.TheImpl.Laws.{total-law as fact_order_total, matches_eq-law as fact_ties}
 use Rattle.dx_model.specs.contracts.facts.FactEq.TheImpl.Laws.{laws-law as fact_equiv}
 use Rattle.dx_model.specs.contracts.facts.FactPartialEq.TheImpl.{eq-value as fact_same}
-use Rattle.dx_model.specs.Values.{Ascends, FactsAscend, NullsAscend, fact_cmp, value_cmp}
-use Rattle.dx_model.proofs.Orders.{null_exact, fact_exact, facts_compare}
+use Rattle.dx_model.specs.Values.{Ascends, FactsAscend, fact_cmp, value_cmp}
+use Rattle.dx_model.proofs.Orders.{fact_exact, facts_compare}
 
 module _ {X : Type 0} (cmp : X → X → Ordering) (total : IsTotalOrder cmp) (same : X → X → Bool) (equiv : IsEquivalence same)
     (ties : (x y : X) → same x y ≡ eq_by_cmp cmp x y) (exact : (x y : X) → cmp x y ≡ Equal → x ≡ y) where

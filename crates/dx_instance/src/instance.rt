@@ -1,5 +1,5 @@
 // Instances: for each table a width and distinct rows, whose values stand as numbers.
-ghost use Rattle.std.specs.Prelude.{◌≡◌, ◌↔◌, ◌<◌, ◌≤◌, ◌-◌, ◌^◌, ℕ, List, length, map, count_by, Some, slice_get, slice_index, slice_index_or, IsTrue, IfOk, OnOk, OnErr, IfSome, IfNone, MatchBool, MatchOption};
+ghost use Rattle.std.specs.Prelude.{◌≡◌, ◌↔◌, ◌<◌, ◌≤◌, ◌-◌, ◌^◌, ℕ, List, length, map, Some, slice_get, slice_index, IsTrue, IfOk, OnErr, IfSome, MatchBool};
 ghost use Rattle.std.specs.Bool.{OnTrue};
 ghost use Rattle.std.specs.List.{AllZip};
 ghost use Rattle.dx_ports.specs.Members.{Distinct, Each, ◌∈◌, ◌≈◌};

@@ -1,5 +1,5 @@
 // Values put in order, their texts in one buffer.
-ghost use Rattle.std.specs.Prelude.{◌≡◌, ◌≤◌, ◌-◌, ◌<◌, ◌^◌, ℕ, IfOk, IfSome, IsUtf8, OnOk, length, map, slice_index, string_bytes, take, drop, ◌++◌};
+ghost use Rattle.std.specs.Prelude.{◌≡◌, ◌≤◌, ◌-◌, ◌<◌, ◌^◌, IfOk, IfSome, IsUtf8, OnOk, length, map, slice_index, string_bytes, take, drop, ◌++◌};
 ghost use Rattle.std.specs.Int.{to_be_bytes, w64};
 ghost use Rattle.dx_ports.specs.Members.{Each};
 ghost use Rattle.dx_model.specs.declared.values.Value.TheVariants.{Const};

@@ -5,7 +5,7 @@ use Rattle.std.proofs.lemmas.Bool.{cases_Bool, eqb-true, eqb-false, eq-eqb, ne_e
 use Rattle.std.proofs.lemmas.List.{map-append, drop_more, length-map, length-append, get_or-map}
 use Rattle.std.proofs.lemmas.Simd.{map-map}
 use Rattle.dx_ports.specs.Members.{◌∈◌, ◌⊆◌, here, there, Distinct, Each}
-use Rattle.dx_ports.proofs.Members.{in_right, from_append, from_map}
+use Rattle.dx_ports.proofs.Members.{in_right, from_map}
 use Rattle.dx_ports.proofs.Tests.{map_same}
 use Rattle.dx_instance.specs.Cells.{row_key}
 use Rattle.dx_joins.specs.Joining.{IsJoinOf}

@@ -1,11 +1,9 @@
 // Derived variables, whose texts a host computes.
-ghost use Rattle.std.specs.Prelude.{◌≡◌, ◌↔◌, ◌⊎◌, ◌<◌, ◌≤◌, ◌+◌, ◌-◌, ◌^◌, ◌++◌, ◌∷◌, [], ℕ, List, IfOk, OnOk, IsTrue, MatchOption, length, map};
-ghost use Rattle.dx_ports.specs.Members.{◌∈◌, ◌⊆◌, Distinct, Each};
+ghost use Rattle.std.specs.Prelude.{◌≡◌, ◌<◌, ◌+◌, ◌^◌, ◌∷◌, [], IfOk, OnOk, length, map};
+ghost use Rattle.dx_ports.specs.Members.{◌⊆◌, Each};
 ghost use Rattle.dx_model.specs.declared.values.Value.TheVariants.{Const};
-ghost use Rattle.dx_model.specs.Values.{Tuple as AnyTuple};
 ghost use Rattle.dx_model.specs.Rules.{text_of};
 ghost use Rattle.dx_instance.specs.Numbers.{AreDistinctValues, Extends, value_of};
-ghost use Rattle.dx_instance.specs.Shown.{AreBelow};
 ghost use Rattle.dx_instance.specs.Ranks.{text_of_value};
 ghost use Rattle.dx_joins.specs.Shown.{AreTexts, texts_of};
 ghost use Rattle.dx_joins.specs.Derivations.{IsComputed, IsTextRow, derived_value, with_derived};

@@ -1,6 +1,5 @@
 // A join of partial matches with the rows of a pattern's table.
-ghost use Rattle.std.specs.Prelude.{◌≡◌, ◌↔◌, ◌<◌, ◌+◌, ◌++◌, ℕ, List, IfOk, IfSome, OnOk, IsTrue, length, map, slice_index};
-ghost use Rattle.dx_ports.specs.Members.{◌∈◌, Each};
+ghost use Rattle.std.specs.Prelude.{◌≡◌, ◌<◌, IfOk, IfSome, length};
 ghost use Rattle.dx_instance.specs.Shown.{AreBelow, numbers_of_table};
 ghost use Rattle.dx_joins.specs.Collecting.{Collects};
 ghost use Rattle.dx_joins.specs.Planning.{CanJoin, IndexesTable, IsJoinPlan, Pairs, PairsIn, PairsOf};

@@ -1,5 +1,5 @@
 // Pairs of rows.
-ghost use Rattle.std.specs.Prelude.{◌≡◌, ◌↔◌, ◌<◌, ◌+◌, ◌++◌, IfOk, OnOk, IsTrue, length, map, slice_index};
+ghost use Rattle.std.specs.Prelude.{◌≡◌, ◌↔◌, ◌<◌, ◌+◌, ◌++◌, OnOk, IsTrue, length, slice_index};
 ghost use Rattle.dx_ports.specs.Members.{Each};
 ghost use Rattle.dx_instance.specs.Shown.{AreBelow};
 ghost use Rattle.dx_joins.specs.Joining.{AreMarked};

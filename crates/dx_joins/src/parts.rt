@@ -1,5 +1,5 @@
 // Patterns in parts that share no variable. Each part is joined by itself, and the rows of all of them are put together.
-ghost use Rattle.std.specs.Prelude.{◌≡◌, ◌<◌, ◌≤◌, ◌^◌, ◌++◌, ◌∷◌, [], ℕ, List, Some, IfOk, IfSome, MatchOption, length};
+ghost use Rattle.std.specs.Prelude.{◌≡◌, ◌<◌, ◌≤◌, ◌^◌, ◌++◌, ◌∷◌, [], Some, IfOk, IfSome, MatchOption, length};
 ghost use Rattle.dx_joins.specs.Collecting.{MoreThan};
 ghost use Rattle.dx_joins.specs.Joining.{variables_of_patterns};
 ghost use Rattle.dx_joins.specs.Planning.{AreFewAmong, AreJoinable, IsMatchRow, AreMatchRows};

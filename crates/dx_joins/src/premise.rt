@@ -1,9 +1,8 @@
 // The join of a premise, pattern by pattern.
-ghost use Rattle.std.specs.Prelude.{◌≡◌, ◌↔◌, ◌⊎◌, ◌<◌, ◌≤◌, ◌+◌, ◌-◌, ◌^◌, ◌++◌, ◌∷◌, [], ℕ, List, IfOk, IfSome, OnOk, IsTrue, MatchOption, length, map};
+ghost use Rattle.std.specs.Prelude.{◌≡◌, ◌↔◌, ◌<◌, ◌≤◌, ◌+◌, ◌-◌, ◌^◌, ◌++◌, ◌∷◌, [], ℕ, IfOk, IfSome, OnOk, IsTrue, MatchOption, length};
 ghost use Rattle.dx_ports.specs.Members.{◌∈◌, ◌⊆◌, Distinct, Each};
-ghost use Rattle.dx_instance.specs.Shown.{numbers_of_table};
 ghost use Rattle.dx_joins.specs.Collecting.{AreThose, MoreThan};
-ghost use Rattle.dx_joins.specs.Joining.{MatchesPatterns, variables_of_patterns};
+ghost use Rattle.dx_joins.specs.Joining.{variables_of_patterns};
 ghost use Rattle.dx_joins.specs.Planning.{AddsOnce, AreFewAmong, AreJoinable, CarriesOn, FitPattern, IsVariableNeeded, IsMatchRow};
 ghost use Rattle.dx_joins.specs.Planning.{IsPartialTable, StepsTo, AreMatchRows};
 

@@ -1,7 +1,7 @@
 // What the matches of a premise and derived variables give to any variables.
-ghost use Rattle.std.specs.Prelude.{◌≡◌, ◌↔◌, ◌⊎◌, ◌<◌, ◌≤◌, ◌+◌, ◌-◌, ◌^◌, ◌++◌, ◌∷◌, [], ℕ, List, IfOk, IfSome, OnOk, IsTrue, MatchOption, length, map, max};
+ghost use Rattle.std.specs.Prelude.{◌≡◌, ◌↔◌, ◌<◌, ◌≤◌, ◌+◌, ◌^◌, ◌++◌, [], ℕ, IfOk, IfSome, IsTrue, MatchOption, length, max};
 ghost use Rattle.std.specs.List.{range_with_len};
-ghost use Rattle.dx_ports.specs.Members.{◌∈◌, Distinct, Each};
+ghost use Rattle.dx_ports.specs.Members.{◌∈◌, Each};
 ghost use Rattle.dx_model.specs.declared.rules.Derived.{Derived as AnyDerived};
 ghost use Rattle.dx_model.specs.Rules.{after_cells, cells_of};
 ghost use Rattle.dx_funcs.specs.Offers.{IsListed};
@@ -9,7 +9,7 @@ ghost use Rattle.dx_funcs.specs.Serving.{Serves, offered};
 ghost use Rattle.dx_instance.specs.Numbers.{AreDistinctValues, Extends};
 ghost use Rattle.dx_instance.specs.Stored.{widths};
 ghost use Rattle.dx_instance.specs.Shown.{shown_tables};
-ghost use Rattle.dx_joins.specs.Collecting.{Collection, TakesPlaces};
+ghost use Rattle.dx_joins.specs.Collecting.{TakesPlaces};
 ghost use Rattle.dx_joins.specs.Planning.{AreFewAmong};
 ghost use Rattle.dx_joins.specs.Shown.{FitsMatching, IsMatchTuple, MoreTuples, StandFor, shown_facts};
 ghost use Rattle.dx_joins.specs.Derivations.{DerivesTo, GivenBy, HasTextRows, IsComputed, IsTextRow, IsVariableWanted};

@@ -1,8 +1,6 @@
 // Premises as patterns, and numbers that stand for texts.
-ghost use Rattle.std.specs.Prelude.{◌≡◌, ◌↔◌, ◌<◌, ◌≤◌, ◌+◌, ◌-◌, ◌^◌, [], ℕ, List, IfOk, IfSome, OnOk, IsTrue, MatchOption, length, map, flat_map};
-ghost use Rattle.dx_ports.specs.Members.{◌∈◌, Each};
+ghost use Rattle.std.specs.Prelude.{◌≡◌, ◌≤◌, [], IfOk, IfSome, MatchOption, length, map, flat_map};
 ghost use Rattle.dx_model.specs.Values.{Conversions};
-ghost use Rattle.dx_model.specs.Rules.{after_cells, cells_of};
 ghost use Rattle.dx_model.specs.Fitting.{cell_variable};
 ghost use Rattle.dx_model.specs.declared.rules.Cell.TheVariants.{Var};
 ghost use Rattle.dx_instance.specs.Stored.{widths};

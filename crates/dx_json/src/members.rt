@@ -1,5 +1,5 @@
 // The members of one object.
-ghost use Rattle.std.specs.Prelude.{◌≡◌, ◌<◌, [], List, IfOk, IfErr, OnOk};
+ghost use Rattle.std.specs.Prelude.{◌≡◌, [], IfOk, IfErr, OnOk};
 ghost use Rattle.serde_json.specs.Find.{get_member};
 ghost use Rattle.dx_json.specs.View.{lent_view, view, members_view};
 ghost use Rattle.dx_json.specs.Documents.{TellsFirstFault};

@@ -1,5 +1,5 @@
 // The order of the members of objects.
-ghost use Rattle.std.specs.Prelude.{◌≡◌, ◌+◌, ◌<◌, ◌≤◌, ◌^◌, ◌++◌, [], length, suc, true, IfOk, OnOk};
+ghost use Rattle.std.specs.Prelude.{◌≡◌, ◌+◌, ◌<◌, ◌≤◌, ◌^◌, ◌++◌, length, suc, true, IfOk, OnOk};
 ghost use Rattle.dx_ports.specs.declared.limits.TheConstants.{TABLES};
 ghost use Rattle.dx_schema.specs.Tables.{count};
 ghost use Rattle.dx_json.specs.Nesting.{own_from};

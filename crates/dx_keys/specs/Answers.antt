@@ -1,9 +1,8 @@
 -- What the key chase of an instance answers.
-use Rattle.std.specs.Prelude.{◌≡◌, ℕ, ◌<◌, List, [], length, slice_index_or}
+use Rattle.std.specs.Prelude.{◌≡◌, ◌<◌, List, length}
 use Rattle.std.specs.declared.cmp.Ordering.TheVariants.{Less}
-use Rattle.dx_model.specs.declared.values.Value.{Value}
 use Rattle.dx_model.specs.declared.facts.Fact.{Fact}
-use Rattle.dx_model.specs.Tables.{Determination, IsKeyed, Table, table_of, determination_at, fact_of_row}
+use Rattle.dx_model.specs.Tables.{IsKeyed, Table, table_of, determination_at, fact_of_row}
 use Rattle.dx_model.specs.Values.{row_cmp}
 use Rattle.dx_model.specs.Chase.{after, AreSteps, IsClashAt, IsForcedMap, NoneReceives}
 use Rattle.dx_instance.specs.NullMaps.{pairs_of}

@@ -1,8 +1,6 @@
 // An instance as rows of numbers that compare as their values.
-ghost use Rattle.std.specs.Prelude.{◌≡◌, ◌<◌, ◌≤◌, ℕ, IfOk, length, map};
+ghost use Rattle.std.specs.Prelude.{◌≡◌, ◌<◌, IfOk, length, map};
 ghost use Rattle.std.specs.List.{range_with_len};
-ghost use Rattle.dx_ports.specs.Texts.{Text};
-ghost use Rattle.dx_model.specs.Tables.{cell};
 ghost use Rattle.dx_model.specs.declared.values.Value.TheVariants.{Const};
 ghost use Rattle.dx_instance.specs.Numbers.{IsOrdering, ValuesAscend};
 ghost use Rattle.dx_instance.specs.Shown.{PartsFit, numbers_of_table, renumbered};

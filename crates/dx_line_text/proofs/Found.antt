@@ -13,7 +13,6 @@ use Rattle.dx_schema.proofs.Valid.{among_in, in_among}
 use Rattle.dx_tokens.specs.declared.faults.TextFault.TheVariants.{At}
 use Rattle.dx_tokens.specs.declared.faults.TextKind.TheVariants.{UnknownName}
 use Rattle.dx_schema_text.specs.declared.texts.PlaceText.{PlaceText}
-use Rattle.dx_funcs.specs.declared.conversion.Conversion.{Conversion}
 use Rattle.dx_lines.specs.declared.line.Place.{Place}
 use Rattle.dx_line_text.specs.Naming.{set_names, set_number, columns_in, name_fault, place_fault, place_of_text}
 

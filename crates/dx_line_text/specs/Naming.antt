@@ -1,6 +1,5 @@
 -- What the words of lines name: the first that is at fault, and the lines by numbers.
-use Rattle.std.specs.Prelude.{ℕ, List, [], ◌∷◌, Option, Some, None, cond, eqb, length, map, nat_eq}
-use Rattle.std.specs.Cmp.Lexicographic.{pointwise}
+use Rattle.std.specs.Prelude.{ℕ, List, [], ◌∷◌, Option, Some, None, cond, eqb, length, map}
 use Rattle.dx_ports.specs.Texts.{Text}
 use Rattle.dx_ports.specs.Firsts.{first_of}
 use Rattle.dx_schema.specs.Forest.{Forest}

@@ -7,15 +7,14 @@ use Rattle.dx_model.specs.declared.values.NullId.{NullId}
 use Rattle.dx_model.specs.declared.values.Value.{Value}
 use Rattle.dx_model.specs.declared.values.Value.TheVariants.{Const, Null}
 use Rattle.dx_model.specs.declared.facts.Fact.{Fact}
-use Rattle.dx_model.specs.declared.facts.NullPair.{NullPair}
 use Rattle.dx_model.specs.declared.tables.Link.{Link}
 use Rattle.dx_model.specs.declared.rules.Cell.{Cell}
-use Rattle.dx_model.specs.declared.rules.Cell.TheVariants.{Var, Ex, Lit}
+use Rattle.dx_model.specs.declared.rules.Cell.TheVariants.{Var, Ex}
 use Rattle.dx_model.specs.declared.rules.Atom.{Atom}
 use Rattle.dx_model.specs.declared.rules.Rule.{Rule}
 use Rattle.dx_model.specs.Values.{Conversions, constants, fact_cmp, null_cmp, row_cmp, tuple_cmp, value_cmp}
 use Rattle.dx_model.specs.Instances.{HoldsConstants, IsHomomorphism, IsNullMap, MapsInto, fact_both, fact_moved, nulls_in}
-use Rattle.dx_model.specs.Tables.{Determination, DeterminationsFit, FactFits, KeysHold, LinksHold, PairObeys, Table, key_of, table_of, values_in}
+use Rattle.dx_model.specs.Tables.{DeterminationsFit, FactFits, KeysHold, LinksHold, PairObeys, Table, key_of, table_of, values_in}
 use Rattle.dx_model.specs.Rules.{Increase, IsMatch, IsRows, canonical, existentials, premise_fact}
 use Rattle.dx_model.specs.Solutions.{IsSolution, IsUniversal}
 use Rattle.dx_model.specs.Chase.{IsForcedMap}

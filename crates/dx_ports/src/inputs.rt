@@ -1,5 +1,5 @@
 // What is read from: files by name.
-ghost use Rattle.std.specs.Prelude.{◌≡◌, ℕ, ◌≤◌, ◌<◌, List, [], length, Option, Some, None, OnOk, OnErr, IfSome, IsErrOf, IsSomeAnd};
+ghost use Rattle.std.specs.Prelude.{◌≡◌, ◌≤◌, ◌<◌, [], length, Some, None, OnOk, OnErr, IfSome, IsErrOf, IsSomeAnd};
 ghost use Rattle.std.specs.FinMap.{get};
 ghost use Rattle.dx_ports.specs.States.{InputState};
 ghost use Rattle.dx_ports.specs.Faults.{Rose};

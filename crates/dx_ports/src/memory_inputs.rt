@@ -1,8 +1,8 @@
 // Inputs in memory, which can be made to fail.
-ghost use Rattle.std.specs.Prelude.{◌≡◌, ℕ, ◌≤◌, ◌<◌, List, [], length, Option, Some, None, OnOk, OnErr, IfSome, IsErrOf, IsSomeAnd, Contains, slice_get, min, ◌+◌, ◌-◌, ◌^◌, ◌⊎◌};
-ghost use Rattle.std.specs.Option.{option_map, option_copied};
+ghost use Rattle.std.specs.Prelude.{◌≡◌, ◌≤◌, ◌<◌, [], length, Option, Some, None, OnOk, OnErr, IfSome, IsErrOf, IsSomeAnd, Contains, min, ◌+◌, ◌-◌, ◌^◌, ◌⊎◌};
+ghost use Rattle.std.specs.Option.{option_copied};
 ghost use Rattle.std.specs.FinMap.{get};
-ghost use Rattle.dx_ports.specs.Entries.{FileMap, file_map};
+ghost use Rattle.dx_ports.specs.Entries.{file_map};
 ghost use Rattle.dx_ports.specs.Faults.{Rose};
 
 use crate::{FetchFault, File, Inputs, Text};

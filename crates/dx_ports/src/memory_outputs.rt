@@ -1,5 +1,5 @@
 // Outputs in memory, which can be made to fail.
-ghost use Rattle.std.specs.Prelude.{◌≡◌, ℕ, [], ◌∷◌, Some, OnOk, OnErr, IsErrOf, IsTrue, Contains, min, take, ◌↔◌, ◌⊎◌, ◌+◌, ◌-◌, ◌^◌, ◌≤◌, ◌<◌};
+ghost use Rattle.std.specs.Prelude.{◌≡◌, [], ◌∷◌, Some, OnOk, OnErr, IsErrOf, IsTrue, Contains, min, take, ◌↔◌, ◌⊎◌, ◌+◌, ◌-◌, ◌^◌, ◌≤◌, ◌<◌};
 ghost use Rattle.std.specs.Bool.{OnTrue, MatchBool};
 ghost use Rattle.dx_ports.specs.Entries.{entries_of, appended, GrewByPrefix};
 ghost use Rattle.dx_ports.specs.Faults.{Rose};

@@ -1,5 +1,5 @@
 // What is written to: files by name, and a text that is said.
-ghost use Rattle.std.specs.Prelude.{◌≡◌, ℕ, ◌≤◌, List, [], ◌∷◌, Option, OnOk, OnErr, IsErrOf};
+ghost use Rattle.std.specs.Prelude.{◌≡◌, ℕ, ◌≤◌, [], ◌∷◌, OnOk, OnErr, IsErrOf};
 ghost use Rattle.dx_ports.specs.Entries.{appended, GrewByPrefix};
 ghost use Rattle.dx_ports.specs.Faults.{Rose};
 ghost use Rattle.dx_ports.specs.States.{OutputState};

@@ -1,14 +1,11 @@
 -- What is answered of a text is what it says, or its first fault, and the other way round.
-use Rattle.std.proofs.Common.{◌≡◌, ◌⊎◌, ℕ, zero, suc, ◌-◌, ◌≤◌, List, [], ◌++◌, length, Result, Ok, Err, Option, Some, None, refl, sym, ap, ◌∙◌, subst, inl, inr}
-use Rattle.std.proofs.lemmas.List.{append-nil}
-use Rattle.std.proofs.lemmas.Option.{none-some, same_Some}
+use Rattle.std.proofs.Common.{◌≡◌, ◌⊎◌, ℕ, zero, suc, ◌-◌, ◌≤◌, List, [], length, Result, Ok, Err, Option, Some, None, refl, sym, ap, ◌∙◌, subst, inl, inr}
+use Rattle.std.proofs.lemmas.Option.{none-some}
 use Rattle.dx_tokens.specs.declared.tokenizer.TokenKind.TheVariants.{Word}
 use Rattle.dx_tokens.specs.declared.scanner.Lexeme.{Lexeme}
-use Rattle.dx_tokens.specs.declared.scanner.Stop.{Stop}
 use Rattle.dx_tokens.specs.declared.faults.TextFault.{TextFault}
 use Rattle.dx_tokens.specs.declared.faults.TextFault.TheVariants.{At}
 use Rattle.dx_tokens.specs.declared.faults.TextKind.{TextKind}
-use Rattle.dx_tokens.specs.declared.faults.TextKind.TheVariants.{Character, Ended}
 use Rattle.dx_tokens.proofs.Judged.{AreApart, fault_answered, one_fault_by, never_faulty, stop_is_fault, said_or_faulty}
 use Rattle.dx_tokens.specs.Scan.{scan_of}
 use Rattle.dx_tokens.proofs.StopKinds.{stop_kind}
@@ -17,7 +14,7 @@ use Rattle.dx_grammar.specs.Readers.{TellsOfTokens}
 use Rattle.dx_grammar.proofs.Exact.{whole_start}
 use Rattle.dx_grammar.proofs.Spelled.{whole_finds}
 use Rattle.dx_grammar.proofs.Faults.{same_ok, same_err, unexpected_at, never_both, one_unexpected, one_told, never_stopped}
-use Rattle.dx_schema_text.specs.Texts.{begun_in, fault_in, judged_tokens, token_place}
+use Rattle.dx_schema_text.specs.Texts.{fault_in, judged_tokens, token_place}
 use Rattle.dx_schema_text.proofs.Answered.{fault_kind, none_begun, no_fault}
 use Rattle.dx_query_text.specs.declared.texts.PartText.{PartText}
 use Rattle.dx_query_text.specs.Grammar.{query}

@@ -3,7 +3,6 @@ use Rattle.std.proofs.Common.{◌≡◌, refl, sym, ap, ◌∙◌, subst}
 use Rattle.std.proofs.lemmas.List.{append_cancel_left}
 use Rattle.dx_ports.proofs.Firsts.{each_none}
 use Rattle.dx_ports.proofs.Members.{from_map}
-use Rattle.dx_model.specs.declared.rules.Rule.{Rule}
 use Rattle.dx_model.specs.Fitting.{RuleFits}
 use Rattle.dx_schema.specs.Tables.{model_tables}
 use Rattle.dx_schema_text.specs.declared.texts.MappingText.{MappingText}

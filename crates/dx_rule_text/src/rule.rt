@@ -1,5 +1,5 @@
 // The text of rules.
-ghost use Rattle.std.specs.Prelude.{◌≡◌, ◌++◌, IfOk, OnOk, codes, string_bytes};
+ghost use Rattle.std.specs.Prelude.{◌≡◌, ◌++◌, IfOk, OnOk, string_bytes};
 ghost use Rattle.dx_ports.specs.Members.{Each};
 ghost use Rattle.dx_funcs.specs.Serving.{offered};
 ghost use Rattle.dx_rule_text.specs.Printed.{AreAtomsOf, AreListed, rule_text, rules_text};

@@ -2,7 +2,7 @@
 use Rattle.std.proofs.Common.{false, true, Some, None, ◌≡◌, [], ◌∷◌, refl}
 use Rattle.dx_schema.specs.Forest.{Forest, bare_set, none, set}
 use Rattle.dx_model.specs.Tables.{key_of}
-use Rattle.dx_schema.specs.Tables.{model_tables, no_table, tables_of}
+use Rattle.dx_schema.specs.Tables.{model_tables, tables_of}
 use Rattle.dx_ports.specs.Texts.{Text}
 
 abbrev a : Text

@@ -1,5 +1,5 @@
 -- The widths of a schema's tables, by the tables of the model.
-use Rattle.std.proofs.Common.{◌≡◌, ℕ, List, [], ◌∷◌, length, refl, ap}
+use Rattle.std.proofs.Common.{◌≡◌, List, [], ◌∷◌, length, refl, ap}
 use Rattle.std.specs.Prelude.{map}
 use Rattle.dx_model.specs.Tables.{Table}
 use Rattle.dx_schema.specs.Forest.{Forest}

@@ -12,7 +12,7 @@ use Rattle.dx_schema.specs.declared.cycles.Edge.{Edge}
 use Rattle.dx_schema.specs.Forest.{Forest}
 use Rattle.dx_schema.specs.Tables.{TableOf, tables_of, schema_table, no_table, model_tables, as_numbers, AreTables, IsSchemaTable, IsLink}
 use Rattle.dx_schema.specs.Marks.{LeadsTo, step, more, IsCycleOrNone, edges_of}
-use Rattle.dx_schema.specs.Bounds.{HasFewRules, HasSmallNumbers}
+use Rattle.dx_schema.specs.Bounds.{HasFewRules}
 use Rattle.dx_schema.proofs.Bounds.{tables_numbered}
 use Rattle.dx_schema.specs.Links.{every_link, LeadsByLinks, directly, further, IsAcyclic, IsFirstCycle}
 use Rattle.dx_schema.proofs.Marks.{LeadsTo-snoc}

@@ -4,7 +4,7 @@ ghost use Rattle.dx_ports.specs.declared.limits.TheConstants.{TABLES, COLUMNS};
 ghost use Rattle.dx_ports.specs.Members.{◌∈◌, Each};
 ghost use Rattle.dx_model.specs.Tables.{DeterminationsFit, table_of};
 ghost use Rattle.dx_schema.specs.Forest.{forest_of};
-ghost use Rattle.dx_schema.specs.Tables.{count, tables_of, schema_table, tree_at, model_tables, number_of_name, schema_widths, AreTables, IsLink};
+ghost use Rattle.dx_schema.specs.Tables.{count, tables_of, schema_table, tree_at, model_tables, schema_widths, AreTables, IsLink};
 ghost use Rattle.dx_schema.specs.Bounds.{HasFewRules, HasSmallNumbers};
 ghost use Rattle.dx_schema.specs.Links.{every_link, IsAcyclic, IsFaultless, IsFirstSchemaFault};
 ghost use Rattle.dx_schema.specs.declared.fault.SchemaFault.TheVariants.{Memory};

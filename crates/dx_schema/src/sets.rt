@@ -1,5 +1,5 @@
 // Sets as they are declared, each with its inner sets.
-ghost use Rattle.std.specs.Prelude.{◌≡◌, ◌≤◌, ◌↔◌, [], OnOk, OnErr, IsTrue, not};
+ghost use Rattle.std.specs.Prelude.{◌≡◌, ◌≤◌, ◌↔◌, OnOk, OnErr, IsTrue, not};
 ghost use Rattle.dx_ports.specs.declared.limits.TheConstants.{TABLES};
 ghost use Rattle.dx_schema.specs.Bounds.{HasFewRules};
 ghost use Rattle.dx_schema.specs.Forest.{bare_set, forest_of, followed_by, has_sets, none, set};

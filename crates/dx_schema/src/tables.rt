@@ -1,7 +1,7 @@
 // Sets as tables.
-ghost use Rattle.std.specs.Prelude.{◌≡◌, ◌<◌, ◌≤◌, ◌+◌, ◌^◌, ◌++◌, [], ◌∷◌, length, map, codes, IfOk, OnOk, slice_index_or};
+ghost use Rattle.std.specs.Prelude.{◌≡◌, ◌<◌, ◌≤◌, ◌+◌, ◌^◌, ◌++◌, [], ◌∷◌, length, map, codes, IfOk, slice_index_or};
 ghost use Rattle.dx_ports.specs.declared.limits.TheConstants.{TABLES, COLUMNS};
-ghost use Rattle.dx_schema.specs.Tables.{columns_of, count, numbers_of_names, where_inner, where_has_inner, columns_at, firm_refs, key_named, keys_in, dep_named, deps_in, link_of, link_up, links_in, optional_in, table_in};
+ghost use Rattle.dx_schema.specs.Tables.{columns_of, count, numbers_of_names, where_inner, where_has_inner, key_named, keys_in, dep_named, deps_in, link_of, link_up, links_in, optional_in, table_in};
 ghost use Rattle.dx_schema.specs.Nodes.{node_view};
 ghost use Rattle.dx_schema.specs.Making.{IsColumnLists, IsOverview, IsOwnList, IsReadyForTables};
 

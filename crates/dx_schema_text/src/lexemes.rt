@@ -1,5 +1,5 @@
 // The first tokens of a list: words, strings, marks, and names.
-ghost use Rattle.std.specs.Prelude.{◌≡◌, ◌∷◌, [], codes};
+ghost use Rattle.std.specs.Prelude.{◌≡◌, codes};
 ghost use Rattle.dx_grammar.specs.Readers.{token, next_is, many, with_front, ReadsAs};
 ghost use Rattle.dx_schema_text.specs.Grammar.{is_word, is_string, word_is, digit_is, mark_is};
 ghost use Rattle.dx_schema_text.specs.Reading.{comma_word, words_reader};

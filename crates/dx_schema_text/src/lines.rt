@@ -1,5 +1,5 @@
 // Lines from sources to places of the target, and conditions on columns of the source.
-ghost use Rattle.std.specs.Prelude.{◌≡◌, codes};
+ghost use Rattle.std.specs.Prelude.{codes};
 ghost use Rattle.dx_grammar.specs.Readers.{many, with_front, ReadsAs};
 ghost use Rattle.dx_schema_text.specs.Grammar.{mark_is};
 ghost use Rattle.dx_schema_text.specs.Reading.{place_reader, comma_place, places_reader, string_reader, column_reader, call_reader, named_reader, source_reader, line_reader, only_reader};

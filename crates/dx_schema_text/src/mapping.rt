@@ -1,7 +1,7 @@
 // Whole mapping texts.
 ghost use Rattle.std.specs.Prelude.{◌≡◌, codes, IfOk};
 ghost use Rattle.dx_grammar.specs.Readers.{next_is, many, pass_on, give, whole, ReadsAs};
-ghost use Rattle.dx_schema_text.specs.Grammar.{word_is, since_two};
+ghost use Rattle.dx_schema_text.specs.Grammar.{word_is};
 ghost use Rattle.dx_schema_text.specs.Reading.{line_reader, rule_reader, only_reader, line_item, rule_item, only_item, begins_item, item_reader, set_reader, side_reader, body_reader, mapping_reader, mapping_of_items};
 
 use crate::clauses::set;

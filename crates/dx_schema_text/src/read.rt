@@ -1,5 +1,5 @@
 // A mapping text, read with its first fault.
-ghost use Rattle.std.specs.Prelude.{◌≡◌, ◌⊎◌, ◌++◌, ◌<◌, ◌≤◌, ℕ, length, IfOk, IfErr};
+ghost use Rattle.std.specs.Prelude.{◌≡◌, ◌⊎◌, ◌++◌, ◌<◌, ◌≤◌, length, IfOk, IfErr};
 ghost use Rattle.dx_grammar.specs.Readers.{whole};
 ghost use Rattle.dx_tokens.specs.Judged.{Reads};
 ghost use Rattle.dx_tokens.specs.declared.faults.TextFault.TheVariants.{Memory};

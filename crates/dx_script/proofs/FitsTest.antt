@@ -1,6 +1,6 @@
 -- Steps that fit, from the first on.
 use Rattle.std.proofs.Common.{◌≡◌, ℕ, zero, suc, ◌+◌, ◌<◌, ◌≤◌, List, [], ◌∷◌, ◌++◌, length, get_or, take, drop, refl, sym, ◌∙◌, ap, subst, arith, inl, inr}
-use Rattle.std.specs.Prelude.{IsTrue, ◌↔◌, Bool, true, false, map, nat_eq, slice_index_or}
+use Rattle.std.specs.Prelude.{IsTrue, ◌↔◌, Bool, true, false, map, nat_eq}
 use Rattle.std.proofs.lemmas.Bool.Decides.{Decides-eqb}
 use Rattle.std.proofs.lemmas.List.{drop_all, get_or-map, get_or_default, length-map}
 use Rattle.std.proofs.lemmas.Bool.{cases_lt}
@@ -10,7 +10,7 @@ use Rattle.dx_schema.specs.Names.{TableNames}
 use Rattle.dx_funcs.specs.declared.conversion.Conversion.{Conversion}
 use Rattle.dx_script.specs.declared.form.Step.{Step}
 use Rattle.dx_script.specs.declared.form.Step.TheVariants.{Create, MatchRows, KeepRows, InsertRows}
-use Rattle.dx_script.specs.Fits.{FitsScript, InsertFits, ReadsKept, StepFits, created, created_in, rules_with_keep}
+use Rattle.dx_script.specs.Fits.{FitsScript, ReadsKept, StepFits, created, created_in, rules_with_keep}
 use Rattle.dx_script.specs.Names.{table_numbered}
 use Rattle.dx_script.proofs.NameFacts.{no_table}
 use Rattle.dx_script.proofs.Made.{both_end, both_more, head_is, made_next}

@@ -1,10 +1,10 @@
 -- What the first steps make, step by step, and the names of a schema's tables.
-use Rattle.std.proofs.Common.{◌≡◌, ℕ, zero, suc, ◌+◌, ◌<◌, ◌≤◌, List, [], ◌∷◌, ◌++◌, length, get_or, take, drop, refl, sym, ◌∙◌, ap, subst, arith, inl, inr}
-use Rattle.std.specs.Prelude.{IsTrue, ◌↔◌, true, false, Bool, map, flat_map, nat_eq}
+use Rattle.std.proofs.Common.{◌≡◌, ℕ, zero, suc, ◌+◌, ◌<◌, ◌≤◌, List, [], ◌∷◌, ◌++◌, length, get_or, drop, refl, sym, ◌∙◌, ap, arith, inl, inr}
+use Rattle.std.specs.Prelude.{IsTrue, ◌↔◌, true, false, Bool, map, flat_map}
 use Rattle.std.proofs.lemmas.Bool.{false≢true, cases_lt}
-use Rattle.std.proofs.lemmas.List.{drop_more, drop_all, get_or-map, length-map, get_or_default}
+use Rattle.std.proofs.lemmas.List.{drop_more, drop_all, get_or-map, length-map}
 use Rattle.std.proofs.lemmas.Simd.{map-map}
-use Rattle.dx_ports.specs.Members.{◌∈◌, here, there, Each}
+use Rattle.dx_ports.specs.Members.{◌∈◌, here, there}
 use Rattle.dx_ports.proofs.Members.{in_right, from_append}
 use Rattle.dx_ports.proofs.Lists.{cut_at}
 use Rattle.dx_ports.specs.Texts.{Text}
@@ -15,8 +15,8 @@ use Rattle.dx_schema.proofs.Whole.{are_named}
 use Rattle.dx_script.specs.declared.form.Step.{Step}
 use Rattle.dx_script.specs.declared.form.Step.TheVariants.{Create, MatchRows, KeepRows, InsertRows}
 use Rattle.dx_script.specs.Names.{table_numbered, table_names, table_named}
-use Rattle.dx_script.specs.Fits.{created, created_in, kept_in, rules_with_keep}
-use Rattle.dx_script.proofs.NameFacts.{no_table, table_number, same_text, other_text}
+use Rattle.dx_script.specs.Fits.{created, created_in, kept_in}
+use Rattle.dx_script.proofs.NameFacts.{no_table, table_number, other_text}
 
 -- ---- what the rest of the steps makes
 

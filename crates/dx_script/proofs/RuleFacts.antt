@@ -19,7 +19,6 @@ use Rattle.dx_schema.specs.Forest.{Forest}
 use Rattle.dx_schema.specs.Tables.{TableOf, as_numbers, model_tables, tables_of, no_table}
 use Rattle.dx_schema.specs.Names.{TableNames, HaveDistinctNames, table_names_of, names_of_table}
 use Rattle.dx_funcs.specs.Offers.{IsListed, IsOffer}
-use Rattle.std.specs.Prelude.{None}
 use Rattle.dx_model.proofs.RowsExist.{from_variable}
 use Rattle.dx_schema.proofs.Whole.{are_named}
 use Rattle.dx_funcs.specs.declared.conversion.Conversion.{Conversion}

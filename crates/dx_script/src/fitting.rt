@@ -1,10 +1,9 @@
 // Whether a script fits two schemas and a list of conversions.
 ghost use Rattle.std.specs.Prelude.{◌≡◌, ◌↔◌, IsTrue, map};
-ghost use Rattle.dx_ports.specs.Members.{◌∈◌};
 ghost use Rattle.dx_schema.specs.Names.{TableNames, table_names_of};
 ghost use Rattle.dx_funcs.specs.Serving.{offered};
 ghost use Rattle.dx_script.specs.Names.{IsTableAt};
-ghost use Rattle.dx_script.specs.Fits.{FitsScript, InsertFits, KeepFits, MatchFits, ReadsKept, StepFits, created, rules_with_keep};
+ghost use Rattle.dx_script.specs.Fits.{FitsScript, InsertFits, KeepFits, MatchFits, ReadsKept, StepFits, created};
 
 use crate::before::{is_created, is_kept, match_count, match_width, through_keeps};
 use crate::form::{Equal, Out, Script, Select, Step, Unless};

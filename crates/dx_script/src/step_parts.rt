@@ -1,11 +1,11 @@
 // Whether the parts of a step fit.
-ghost use Rattle.std.specs.Prelude.{◌≡◌, ◌↔◌, ◌<◌, IsTrue, length, slice_index_or};
+ghost use Rattle.std.specs.Prelude.{◌≡◌, ◌↔◌, ◌<◌, IsTrue, length};
 ghost use Rattle.dx_ports.specs.Members.{◌∈◌, Each};
 ghost use Rattle.dx_schema.specs.Names.{table_names_of};
 ghost use Rattle.dx_funcs.specs.Names.{TakesTexts};
 ghost use Rattle.dx_funcs.specs.Serving.{offered};
 ghost use Rattle.dx_script.specs.Names.{table_names, table_named, table_numbered};
-ghost use Rattle.dx_script.specs.Fits.{CellFits, EqualFits, HasColumn, OutFits, SelectFits, TestFits, UnlessFits, match_widths};
+ghost use Rattle.dx_script.specs.Fits.{CellFits, EqualFits, HasColumn, OutFits, SelectFits, TestFits, UnlessFits};
 
 use crate::before::match_width;
 use crate::form::{CellRef, Equal, Out, Select, Step, Test, Unless};

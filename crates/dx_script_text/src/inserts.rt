@@ -1,5 +1,4 @@
 // Steps that insert facts. The rule is learned from the first token that has it.
-ghost use Rattle.std.specs.Prelude.{◌≡◌};
 ghost use Rattle.dx_grammar.specs.Readers.{ReadsAs};
 ghost use Rattle.dx_grammar.specs.Numbers.{always, knowing, with_front_known};
 ghost use Rattle.dx_script_tokens.specs.Numbers.{greatest_number};

@@ -1,5 +1,4 @@
 // Steps that keep matches of a rule.
-ghost use Rattle.std.specs.Prelude.{◌≡◌};
 ghost use Rattle.dx_grammar.specs.Readers.{many, with_front, ReadsAs};
 ghost use Rattle.dx_grammar.specs.Lists.{past, list_reader};
 ghost use Rattle.dx_script_tokens.specs.Numbers.{greatest_number};

@@ -1,7 +1,7 @@
 -- The scan of a text is of its tokens and its first fault.
-use Rattle.std.proofs.Common.{inl, inr, ◌≡◌, ℕ, zero, suc, ◌+◌, ◌-◌, ◌≤◌, List, [], ◌∷◌, ◌++◌, length, Some, None, refl, sym, ap, ◌∙◌, arith, append-nil, append_assoc}
+use Rattle.std.proofs.Common.{inl, inr, ◌≡◌, ℕ, zero, suc, ◌+◌, ◌≤◌, List, [], ◌∷◌, ◌++◌, length, Some, None, refl, sym, ap, ◌∙◌, arith, append-nil}
 use Rattle.std.specs.Prelude.{map, slice_range}
-use Rattle.std.proofs.lemmas.List.{drop_at, take_at, length-append, length_push}
+use Rattle.std.proofs.lemmas.List.{length-append, length_push}
 use Rattle.dx_tokens.specs.declared.faults.TextKind.{TextKind}
 use Rattle.dx_tokens.specs.declared.faults.TextKind.TheVariants.{Character, Ended, Expected, UnknownName, Width, Unsafe}
 use Rattle.dx_tokens.proofs.ScanLeads.{token_slice, further}

@@ -2,19 +2,16 @@
 use Rattle.std.proofs.Common.{◌≡◌, ◌≢◌, ℕ, suc, ◌+◌, ◌≤◌, Bool, true, false, List, [], ◌∷◌, ◌++◌, length, take, drop, refl, sym, ap, ◌∙◌, subst, inl, inr, arith, append_assoc, append-nil}
 use Rattle.std.specs.Prelude.{IsUtf8, ◌||◌, ◌==◌, decimal}
 use Rattle.std.specs.Char.{IsScalar, encode_utf8}
-use Rattle.std.specs.List.{prefix_len}
 use Rattle.std.proofs.lemmas.Bool.{cases_Bool, cases_eq, eqb-true, eqb-false, eq-eqb, ne_eqb, false_from_ne_true}
 use Rattle.std.proofs.lemmas.Bool.Decides.{nat_tests}
 use Rattle.std.proofs.lemmas.List.{length_push, length-append, take-append-drop, length-take-le}
-use Rattle.std.proofs.lemmas.List.Folds.{length-prefix_len}
 use Rattle.std.proofs.Math.Seq.{drop-append_seam}
 use Rattle.dx_tokens.specs.declared.faults.TextKind.{TextKind}
 use Rattle.dx_tokens.specs.declared.faults.TextKind.TheVariants.{Character, Ended}
 use Rattle.dx_tokens.specs.Tokens.{is_blank, is_digit, is_word_start, is_word_byte, run}
 use Rattle.dx_tokens.specs.Lexing.{IsWord}
 use Rattle.dx_tokens.proofs.Forms.{prefix_split}
-use Rattle.dx_tokens.proofs.Lexed.{AllPass, StopsAt, run_is}
-use Rattle.dx_tokens.proofs.Skips.{each_push}
+use Rattle.dx_tokens.proofs.Lexed.{StopsAt, run_is}
 use Rattle.dx_tokens.proofs.Spelled.{all_from}
 use Rattle.dx_tokens.proofs.Meanings.{run_at_least, word_more}
 use Rattle.dx_script_tokens.specs.declared.pieces.Shape.{Shape}

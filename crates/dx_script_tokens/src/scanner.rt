@@ -1,5 +1,5 @@
 // The tokens of a script's text up to its first fault.
-ghost use Rattle.std.specs.Prelude.{◌≡◌, ◌<◌, ◌≤◌, ◌^◌, IfOk, IsUtf8, length};
+ghost use Rattle.std.specs.Prelude.{◌≡◌, IfOk, IsUtf8};
 ghost use Rattle.dx_script_tokens.specs.Scan.{SaysUtf8, begun_at, between_quotes, mark_of, name_token, plain_token, script_scan_of, stop_at, script_stopped, text_token, token_of, undoubled, with_tokens};
 
 use crate::kinds::{ScriptKind, mark};

@@ -1,5 +1,5 @@
 -- How a run ends, why, and what it leaves.
-use Rattle.std.specs.Prelude.{◌≡◌, ◌⊎◌, ◌<◌, ◌≤◌, ℕ, List, take, length, Option, IfSome, Result, Ok, Err}
+use Rattle.std.specs.Prelude.{◌≡◌, ◌⊎◌, ◌<◌, ◌≤◌, ℕ, List, take, length, IfSome, Result, Ok, Err}
 use Rattle.dx_ports.specs.Entries.{Entry, entries_of, appended, GrewByPrefix}
 use Rattle.dx_ports.specs.Faults.{Rose}
 use Rattle.dx_ports.specs.States.{InputState, OutputState}

@@ -1,5 +1,5 @@
 // Names by their first appearance.
-ghost use Rattle.std.specs.Prelude.{◌≡◌, ◌+◌, ◌-◌, ◌^◌, ◌<◌, ◌≤◌, [], true, false, IfOk, OnOk, MatchOption, length};
+ghost use Rattle.std.specs.Prelude.{◌≡◌, ◌+◌, ◌-◌, ◌^◌, ◌<◌, [], true, false, IfOk, OnOk, MatchOption, length};
 ghost use Rattle.dx_schema.specs.Faults.{is_among};
 ghost use Rattle.dx_schema.specs.Tables.{number_of_name};
 ghost use Rattle.dx_tgd_text.specs.Numbering.{appeared, unknown_names, new_names, text_cells, with_name};

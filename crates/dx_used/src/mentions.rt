@@ -6,7 +6,7 @@ ghost use Rattle.dx_model.specs.declared.rules.Cell.TheVariants.{Var};
 ghost use Rattle.dx_model.specs.declared.rules.Derived.{Derived};
 ghost use Rattle.dx_model.specs.declared.rules.Rule.{Rule};
 ghost use Rattle.dx_model.specs.Rules.{cells_of};
-ghost use Rattle.dx_used.specs.Used.{IsIdle, arguments, mentions};
+ghost use Rattle.dx_used.specs.Used.{IsIdle, mentions};
 ghost use Rattle.dx_used.specs.Counting.{CountsCells, CellHasPlace};
 
 use dx_model::{Atom, Cell, Derived, Rule};

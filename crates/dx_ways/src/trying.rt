@@ -1,5 +1,5 @@
 // The picks that choices of occurrences give, put into an ascending list, of as many as there may be ways.
-ghost use Rattle.std.specs.Prelude.{◌≡◌, ◌≤◌, ◌<◌, ◌∷◌, List, IfOk, IfErr, OnOk, insert, length, map};
+ghost use Rattle.std.specs.Prelude.{◌≡◌, ◌≤◌, ◌<◌, ◌∷◌, IfOk, IfErr, OnOk, insert, length, map};
 ghost use Rattle.dx_ports.specs.Members.{behind};
 ghost use Rattle.dx_lines.specs.Ways.{pick, put_in};
 ghost use Rattle.dx_ways.specs.declared.fault.WaysFault.TheVariants.{TooMany};

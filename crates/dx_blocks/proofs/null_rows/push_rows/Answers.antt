@@ -1,5 +1,5 @@
 use Rattle.std.proofs.Common.{arith}
-use Rattle.dx_blocks.proofs.NullRowFacts.{row_kept, row_passed, next_table}
+use Rattle.dx_blocks.proofs.NullRowFacts.{row_kept, row_passed}
 use Rattle.dx_blocks.proofs.null_rows.push_rows.Goals as goal
 use Rattle.dx_blocks.proofs.null_rows.push_rows.Goals.{in-Some+in_ok-push, in_default}
 

@@ -1,4 +1,4 @@
-use Rattle.std.proofs.Common.{◌<◌, ◌-◌, ◌≤◌, List, ℕ, get_or, length, sym, subst, arith}
+use Rattle.std.proofs.Common.{◌<◌, ◌-◌, List, ℕ, get_or, length, sym, subst, arith}
 use Rattle.dx_ports.specs.Members.{◌∈◌}
 use Rattle.dx_ports.proofs.Members.{in_at}
 use Rattle.dx_instance.specs.Shown.{shown_row}

@@ -1,4 +1,4 @@
-use Rattle.std.proofs.Common.{◌≡◌, ◌++◌}
+use Rattle.std.proofs.Common.{◌++◌}
 use Rattle.std.specs.Prelude.{codes, string_bytes}
 use Rattle.dx_gen.proofs.Pushed.{front}
 use Rattle.dx_gen.proofs.mapping.push_target.Goals as goal

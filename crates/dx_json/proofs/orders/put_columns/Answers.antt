@@ -1,5 +1,5 @@
 use Rattle.std.proofs.Common.{arith}
-use Rattle.dx_json.specs.Orders.{slots_of, with_cells}
+use Rattle.dx_json.specs.Orders.{slots_of}
 use Rattle.dx_json.proofs.Ordered.{cell_put, cells_put}
 use Rattle.dx_json.proofs.orders.put_columns.Goals as goal
 

@@ -1,4 +1,4 @@
-use Rattle.std.proofs.Common.{◌≡◌, ◌∙◌, ap, arith}
+use Rattle.std.proofs.Common.{◌∙◌, ap, arith}
 use Rattle.std.proofs.lemmas.List.{length-map}
 use Rattle.dx_json.specs.Orders.{all_slots, slots_of}
 use Rattle.dx_json.proofs.Ordered.{one_more, ready_root}

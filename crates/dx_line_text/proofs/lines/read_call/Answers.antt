@@ -1,6 +1,5 @@
 use Rattle.std.proofs.Common.{inr, refl, ◌∙◌}
 use Rattle.std.proofs.lemmas.Result.{err_from_is_err_and}
-use Rattle.std.proofs.lemmas.Bool.{false≢true}
 use Rattle.dx_funcs.specs.Serving.{offered}
 use Rattle.dx_funcs.specs.Names.{first_named}
 use Rattle.dx_line_text.proofs.Calls.{call_unknown, call_width, call_by_args, call_refused, call_read}

@@ -1,6 +1,6 @@
-use Rattle.std.proofs.Common.{◌≡◌, ◌+◌, arith, ap, length}
+use Rattle.std.proofs.Common.{arith, ap, length}
 use Rattle.dx_script.specs.Fits.{width_in}
-use Rattle.dx_script.proofs.Widths.{Passed, none_found, none_passed, one_found, one_passed}
+use Rattle.dx_script.proofs.Widths.{none_found, none_passed, one_found, one_passed}
 use Rattle.dx_script.proofs.before.match_width.Goals as goal
 use Rattle.dx_script.proofs.before.match_width.Goals.{in-MatchRows+else-count-from, in_default}
 

@@ -1,4 +1,4 @@
-use Rattle.std.proofs.Common.{◌≡◌, length, arith, refl, sym, ◌∙◌}
+use Rattle.std.proofs.Common.{length, arith, sym, ◌∙◌}
 use Rattle.std.specs.Prelude.{true, nat_eq}
 use Rattle.dx_schema.specs.Names.{table_names_of}
 use Rattle.dx_script.proofs.Made.{named_count}

@@ -1,8 +1,4 @@
-use Rattle.std.proofs.Common.{◌≡◌, ℕ, ◌≤◌, List, drop, length, map}
-use Rattle.std.specs.Prelude.{◌↔◌}
-use Rattle.dx_ports.specs.Texts.{Text}
-use Rattle.dx_schema.specs.Names.{TableNames, table_names_of}
-use Rattle.dx_script.specs.Fits.{created}
+use Rattle.dx_schema.specs.Names.{table_names_of}
 use Rattle.dx_script.proofs.FitsTest.{Created}
 use Rattle.dx_script.proofs.fitting.create_target.Given as goal
 

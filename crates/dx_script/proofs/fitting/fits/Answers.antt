@@ -1,9 +1,7 @@
-use Rattle.std.proofs.Common.{◌≡◌, ◌<◌, ◌≤◌, length, arith, refl, sym, ◌∙◌, subst, ap}
-use Rattle.std.proofs.lemmas.Bool.{false≢true}
+use Rattle.std.proofs.Common.{arith, refl}
 use Rattle.dx_ports.proofs.Loops.{not_so}
 use Rattle.dx_schema.specs.Names.{table_names_of}
 use Rattle.dx_funcs.specs.Serving.{offered}
-use Rattle.dx_script.specs.Fits.{rules_with_keep}
 use Rattle.dx_script.proofs.FitsTest.{one_fits, script_fits, step_of}
 use Rattle.dx_script.proofs.fitting.fits.Goals as goal
 

@@ -1,4 +1,3 @@
-use Rattle.std.proofs.Common.{ℕ, ◌<◌, ◌≤◌, take, length, get_or}
 use Rattle.dx_schema.specs.Names.{table_names_of}
 use Rattle.dx_funcs.specs.Serving.{offered}
 use Rattle.dx_script.proofs.FitsTest.{FitBelow}

@@ -1,4 +1,4 @@
-use Rattle.std.proofs.Common.{◌≡◌, ◌<◌, length, arith, sym, ◌∙◌, ap}
+use Rattle.std.proofs.Common.{◌<◌, length, arith, sym, ◌∙◌, ap}
 use Rattle.std.proofs.lemmas.Slice.Eq.{bytes_eq-Decides, slice_eq-Decides}
 use Rattle.dx_schema.specs.Names.{TableNames, table_names_of}
 use Rattle.dx_schema.specs.Tables.{tables_of}

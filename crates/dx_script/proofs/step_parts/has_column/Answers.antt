@@ -1,9 +1,4 @@
-use Rattle.std.proofs.Common.{◌≡◌, List, subst, sym}
-use Rattle.std.specs.Prelude.{IsTrue, ◌↔◌}
 use Rattle.std.proofs.lemmas.Bool.{false≢true}
-use Rattle.dx_schema.specs.Names.{TableNames}
-use Rattle.dx_ports.specs.Members.{◌∈◌}
-use Rattle.dx_ports.specs.Texts.{Text}
 use Rattle.dx_script.proofs.Made.{no_column, table_nowhere, table_there}
 use Rattle.dx_script.proofs.step_parts.has_column.Goals as goal
 

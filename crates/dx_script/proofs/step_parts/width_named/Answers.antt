@@ -1,4 +1,4 @@
-use Rattle.std.proofs.Common.{◌≡◌, sym, ◌∙◌, ap, length}
+use Rattle.std.proofs.Common.{sym, ◌∙◌, ap, length}
 use Rattle.std.proofs.lemmas.Bool.{false≢true}
 use Rattle.dx_schema.specs.Names.{TableNames}
 use Rattle.dx_script.proofs.Made.{table_nowhere, table_there}

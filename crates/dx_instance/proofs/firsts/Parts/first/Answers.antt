@@ -1,4 +1,4 @@
-use Rattle.std.proofs.Common.{◌∙◌, ap}
+use Rattle.std.proofs.Common.{ap}
 use Rattle.dx_instance.specs.Cells.{NumberTable}
 use Rattle.dx_instance.proofs.PartsFacts.{added_new, first_new, first_there, parts_new, parts_there}
 use Rattle.dx_instance.proofs.firsts.Parts.first.Goals as goal

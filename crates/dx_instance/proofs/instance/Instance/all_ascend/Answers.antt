@@ -1,4 +1,4 @@
-use Rattle.std.proofs.Common.{below_more, below_none, arith}
+use Rattle.std.proofs.Common.{arith}
 use Rattle.dx_instance.proofs.LawFacts.{all_of}
 use Rattle.dx_instance.proofs.instance.Instance.all_ascend.Goals as goal
 

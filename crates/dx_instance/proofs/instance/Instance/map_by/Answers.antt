@@ -1,8 +1,5 @@
-use Rattle.std.proofs.Common.{◌≡◌, sym, subst, length, List, ℕ, map}
-use Rattle.dx_instance.specs.Cells.{NumberTable}
+use Rattle.std.proofs.Common.{length, map}
 use Rattle.dx_instance.specs.Images.{AreImages}
-use Rattle.dx_instance.specs.Shown.{renumbered, shown_tables}
-use Rattle.dx_instance.specs.Stored.{IsSorting}
 use Rattle.dx_instance.proofs.SortFacts.{if_ok, instance_maps}
 use Rattle.dx_instance.proofs.instance.Instance.map_by.Goals as goal
 
