@@ -2,6 +2,7 @@
 use Rattle.std.proofs.Common.{◌≡◌, ℕ, List, [], ◌∷◌, length, refl, arith}
 use Rattle.std.specs.Prelude.{Bool, IsUtf8, codes, false, true}
 use Rattle.std.specs.Fmt.{digits}
+use Rattle.dx_script.specs.declared.form.CellRef.{CellRef}
 use Rattle.dx_script.specs.declared.form.Select.{Select}
 use Rattle.dx_script.specs.declared.form.Equal.{Equal}
 use Rattle.dx_script.specs.declared.form.Unless.{Unless}
@@ -14,7 +15,13 @@ use Rattle.dx_ports.specs.Members.{Each}
 use Rattle.dx_ports.proofs.Members.{each_cons}
 use Rattle.dx_tokens.specs.Tokens.{is_word_byte}
 use Rattle.dx_script_text.specs.Printable.{AreCounted, AreSome, IsCellRef, IsEqual, IsScriptName, IsOut, IsPrintableScript, IsSelect, NumberFits, IsStep, IsTest, IsUnless}
-use Rattle.dx_script_text.specs.Print.{create_text, match_text, keep_text, insert_text}
+use Rattle.dx_script_text.specs.Print.{create_text, match_text, keep_text, insert_text, script_text}
+
+abbrev of_x : CellRef
+of_x = record { alias = 0; column = codes "x" }
+
+abbrev of_y : CellRef
+of_y = record { alias = 0; column = codes "y" }
 
 created : create_text (codes "unit") (codes "#id" ∷ codes "uname" ∷ []) ≡ codes "CREATE TABLE target.\"unit\" (\"#id\" TEXT, \"uname\" TEXT);\n"
 created = refl
@@ -40,6 +47,19 @@ inserted : insert_text (codes "unit") 1 true (outs.Skolem 0 ∷ outs.Column 0 �
 unfolding digits
 inserted = refl
 
+-- equalities are parted by AND, and each step has its line
+two_steps :
+    script_text (record {
+      steps =
+          steps.MatchRows 0 [] (codes "s" ∷ [])
+          (record { left = of_x; right = of_y } ∷ record { left = of_y; right = of_x } ∷ [])
+          ∷ steps.InsertRows (codes "t") 0 false (outs.Literal (codes "main") ∷ [])
+          ∷ [];
+    })
+    ≡ codes "CREATE TABLE m0 AS SELECT DISTINCT 1 FROM source.\"s\" AS a0 WHERE a0.\"x\" = a0.\"y\" AND a0.\"y\" = a0.\"x\";\nINSERT INTO target.\"t\" SELECT 'main' FROM m0 AS m;\n"
+unfolding digits
+two_steps = refl
+
 -- ---- which scripts can be printed so that they are read again
 
 no_item : {X : Type 0} (P : X → Type 0) → Each [] P
@@ -53,6 +73,9 @@ hash = (refl, one_item (λ b. is_word_byte b ≡ true) 116 refl)
 
 letter : IsScriptName (codes "a")
 letter = (refl, no_item (λ b. is_word_byte b ≡ true))
+
+digit : IsScriptName (codes "1")
+digit = (refl, no_item (λ b. is_word_byte b ≡ true))
 
 -- a name has a character, and no blank
 no_character : ¬ IsScriptName []

@@ -15,8 +15,8 @@ use Rattle.dx_script.specs.declared.form.Step.TheVariants as steps
 use Rattle.dx_script.specs.declared.form.Script.{Script}
 use Rattle.dx_script_text.specs.Reading.{select_call_reader, alias_cell_reader, cell_value_reader, column_out_reader, columns_reader, comma_item, comma_out, comma_source, create_reader, created_reader, declared_reader, equal_reader, equals_reader, insert_end_reader, insert_reader, insert_tail_reader, select_item_reader, items_reader, keep_reader, keep_tail_reader, matched_reader, match_reader, no_items, optional_tests, out_reader, outs_reader, script_reader, select_reader, skolem_reader, skolem_tail_reader, from_source_reader, sources_reader, step_reader, table_reader, test_reader, tests_reader, text_out_reader, text_reader, unless_reader, value_reader, where_clause_reader}
 use Rattle.dx_tokens.specs.Judged.{Reads}
-use Rattle.dx_script_text.specs.Texts.{script_of_tokens, script_of_text, IsScriptFaultOrMemory}
-use Rattle.dx_script_text.proofs.Answered.{never_said_and_faulty, text_script}
+use Rattle.dx_script_text.specs.Texts.{AnswersScript, AnswersScriptFault, script_of_tokens, script_of_text, IsScriptFaultOrMemory}
+use Rattle.dx_script_text.proofs.Answered.{never_said_and_faulty, text_fault, text_script}
 
 -- what is read of a text
 read : List ℕ → Result Script TextFault
@@ -48,6 +48,24 @@ columns_begin_at_0 = refl
 aliases_go_on : read (codes "CREATE TABLE m0 AS SELECT DISTINCT 1 FROM source.\"s\" AS a0, source.\"s\" AS a2") ≡ Err (At 74 Expected)
 unfolding read
 aliases_go_on = refl
+
+columns_go_on : read (codes "CREATE TABLE m0 AS SELECT DISTINCT a0.\"x\" AS c0, a0.\"y\" AS c2") ≡ Err (At 59 Expected)
+unfolding read
+columns_go_on = refl
+
+-- a conversion takes a cell at least, and an insert puts in one at least
+no_arguments : read (codes "CREATE TABLE m0 AS SELECT DISTINCT \"trim\"()") ≡ Err (At 42 Expected)
+unfolding read
+no_arguments = refl
+
+nothing_is_put_in : read (codes "INSERT INTO target.\"t\" SELECT FROM m0 AS m;") ≡ Err (At 30 Expected)
+unfolding read
+nothing_is_put_in = refl
+
+-- a step ends with a semicolon
+no_semicolon : read (codes "INSERT INTO target.\"t\" SELECT m.c0 FROM m0 AS m") ≡ Err (At 47 Ended)
+unfolding read
+no_semicolon = refl
 
 -- a step speaks of one rule
 kept_of_its_rule : read (codes "CREATE TABLE k0 AS SELECT * FROM m1") ≡ Err (At 33 Expected)
@@ -114,6 +132,13 @@ the_own_first : read (codes "CREATE TABLE k0 AS SELECT * FROM m0 AS m WHERE NOT 
 unfolding read
 the_own_first = refl
 
+-- a given text is compared with a column of the own tuple alone
+a_text_of_a_partner :
+    read (codes "CREATE TABLE k0 AS SELECT * FROM m0 AS m WHERE NOT EXISTS (SELECT * FROM m1 AS n WHERE n.c0 = 'x'")
+    ≡ Err (At 94 Expected)
+unfolding read
+a_text_of_a_partner = refl
+
 of_a_partner : read (codes "INSERT INTO target.\"t\" SELECT n") ≡ Err (At 30 Expected)
 unfolding read
 of_a_partner = refl
@@ -145,3 +170,16 @@ told_of_nothing : (e : TextFault) → IsScriptFaultOrMemory [] e → e ≡ Memor
 unfolding read
 told_of_nothing e (inl m) = m
 told_of_nothing e (inr f) = absurd (never_said_and_faulty [] (record { steps = [] }) e (text_script [] (record { steps = [] }) no_steps) f)
+
+-- what the text says is answered, and its first fault
+said_is_answered : ¬ AnswersScript [] (Err (At 0 Ended))
+unfolding read
+said_is_answered h =
+    a_script_for_a_fault (record { steps = [] })
+    (h (record { steps = [] }) (text_script [] (record { steps = [] }) no_steps))
+
+fault_is_answered : (s : Script) → ¬ AnswersScriptFault (codes "CREATE -") (Ok s)
+unfolding read
+fault_is_answered s h =
+    a_fault_for_a_script s (At 7 Character)
+    (h (At 7 Character) (text_fault (codes "CREATE -") (At 7 Character) no_character))

@@ -115,7 +115,7 @@ insert_text table rule kept cells =
 
 -- ---- scripts
 
--- a step is one line
+-- a step, with a line feed behind it: one line, if no literal in it has a line feed
 abbrev pub step_text : Step → Bytes
 step_text (steps.Create table columns) = create_text table columns
 step_text (steps.MatchRows rule select sources equal) = match_text rule select sources equal

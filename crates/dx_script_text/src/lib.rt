@@ -2,8 +2,8 @@
 //!
 //! `read_script` is Ok exactly for the texts of the grammar (specs/Grammar), with the script that the text spells
 //! (specs/Spelling), and else answers the first fault (specs/Texts). `print_script` gives exactly the text of a script
-//! (specs/Print): one line for each step; it is read again as the script, if that is printable (specs/Printable). The
-//! laws: a text says one script or has one first fault and never both.
+//! (specs/Print): each step with a line feed behind it; it is read again as the script, if that is printable
+//! (specs/Printable). The laws: a text says one script or has one first fault and never both.
 #![tactic(auto)]
 
 mod creates;

@@ -69,8 +69,9 @@ fn push_step(step: &Step, out: &mut String) -> Result<(), AllocError>
     }
 }
 
-/// Prints a script, each step in a line of its own, with a line feed. The text is read as this script, if it is printable:
-/// if every name is one, no list that the grammar wants is empty, and there are no more columns and aliases than numbers.
+/// Prints a script, each step with a line feed behind it: in a line of its own, if no literal has a line feed. The text is
+/// read as this script, if it is printable: if every name is one, no list that the grammar wants is empty, and there are no
+/// more columns and aliases than numbers.
 ///
 /// # Errors
 ///
