@@ -1,29 +1,22 @@
 -- Rows of which no two are one are as many as they are in order.
-use Rattle.std.proofs.Common.{◌≡◌, ℕ, ◌<◌, List, [], ◌∷◌, length, arith}
+use Rattle.std.proofs.Common.{◌≡◌, ℕ, ◌<◌, List, [], length, arith}
 use Rattle.std.specs.Cmp.{IsTotalOrder}
-use Rattle.std.specs.declared.cmp.Ordering.TheVariants.{Less}
 use Rattle.std.proofs.lemmas.Cmp.{lists_total}
 use Rattle.dx_ports.specs.Members.{◌⊆◌, Distinct, Each}
 use Rattle.dx_ports.proofs.Members.{in_at, no_longer}
 use Rattle.dx_model.specs.declared.values.Value.{Value}
 use Rattle.dx_model.specs.Values.{RowsAscend, row_cmp}
+use Rattle.dx_model.proofs.Ascending.{ascending_distinct}
 use Rattle.dx_model.proofs.Orders.{value_total}
 use Rattle.dx_instance.specs.Stored.{TableRows, rows_of}
 
 row_total : IsTotalOrder row_cmp
 row_total = lists_total value_total
 
-not_below : (row : List Value) → ¬ (row_cmp row row ≡ Less)
-not_below row e = let s = row_total.antisymm row row in cc (rw e at s)
-
-ascend_distinct : (rows : List (List Value)) → RowsAscend rows → Distinct rows
-ascend_distinct [] up = tt
-ascend_distinct (row ∷ rows) up = ((λ m. not_below row (up.0 row m)), ascend_distinct rows up.1)
-
 as_many : (rows sorted : List (List Value)) → Distinct rows → RowsAscend sorted → rows ⊆ sorted → sorted ⊆ rows → length rows ≡ length sorted
 as_many rows sorted distinct up kept only =
     let a = no_longer rows sorted distinct kept in
-    let b = no_longer sorted rows (ascend_distinct sorted up) only in omega (arith, a, b)
+    let b = no_longer sorted rows (ascending_distinct row_cmp row_total sorted up) only in omega (arith, a, b)
 
 -- the rows of a table of an instance
 pub rows_as_many : (I : List TableRows) (t : ℕ) (sorted : List (List Value)) → Each I (λ u. Distinct u.rows) → t < length I → RowsAscend sorted

@@ -4,7 +4,7 @@ use Rattle.std.specs.Cmp.{IsTotalOrder}
 use Rattle.std.specs.declared.cmp.Ordering.{Ordering}
 use Rattle.std.specs.declared.cmp.Ordering.TheVariants.{Less, Equal, Greater}
 use Rattle.std.specs.Ordering.{ordering_reverse}
-use Rattle.dx_ports.specs.Members.{◌∈◌, ◌⊆◌, here, there, Each}
+use Rattle.dx_ports.specs.Members.{◌∈◌, ◌⊆◌, here, there, Distinct, Each}
 use Rattle.dx_model.specs.Values.{Ascends, fact_cmp}
 use Rattle.dx_model.specs.Laws.{OneAscending}
 use Rattle.dx_model.proofs.Orders.{fact_total}
@@ -18,6 +18,11 @@ module _ {X : Type 0} (cmp : X → X → Ordering) (total : IsTotalOrder cmp) wh
   not_below_itself x e =
       let t = total.antisymm x x in
       cc (rw e at t)
+
+  -- no member of an ascending list stands twice
+  pub ascending_distinct : (xs : List X) → Up cmp xs → Distinct xs
+  ascending_distinct [] a = tt
+  ascending_distinct (x ∷ xs) a = ((λ m. not_below_itself x (a.0 x m)), ascending_distinct xs a.1)
 
   not_both : (x y : X) → cmp x y ≡ Less → cmp y x ≡ Less → ⊥
   not_both x y a b = not_below_itself x (total.trans x y x a b)

@@ -2,10 +2,9 @@
 use Rattle.std.proofs.Common.{◌≡◌, ◌⊎◌, ℕ, List, [], ◌∷◌, false, inl, inr, length, refl, sym, ◌∙◌, ap, subst, arith}
 use Rattle.std.specs.Prelude.{◌*◌, cond, eqb, map, flat_map}
 use Rattle.std.proofs.lemmas.Bool.{cases_Bool, cases_order, eqb-true}
-use Rattle.dx_ports.specs.Members.{◌∈◌, here, there, Distinct, Each}
+use Rattle.dx_ports.specs.Members.{◌∈◌, here, there, Each}
 use Rattle.dx_ports.proofs.Members.{from_flat_map, from_map, in_flat_map, in_map}
 use Rattle.dx_ports.proofs.Tests.{map_same}
-use Rattle.std.specs.declared.cmp.Ordering.TheVariants.{Less}
 use Rattle.dx_model.specs.declared.values.Value.{Value}
 use Rattle.dx_model.specs.declared.values.Value.TheVariants.{Const, Null}
 use Rattle.dx_model.specs.declared.facts.Fact.{Fact}
@@ -13,9 +12,9 @@ use Rattle.dx_model.specs.declared.rules.Cell.{Cell}
 use Rattle.dx_model.specs.declared.rules.Cell.TheVariants.{Var, Ex, Lit}
 use Rattle.dx_model.specs.declared.rules.Atom.{Atom}
 use Rattle.dx_model.specs.Values.{Tuple, tuple_cmp, constants}
-use Rattle.dx_model.specs.Rules.{TuplesAscend, cells_of}
+use Rattle.dx_model.specs.Rules.{cells_of}
 use Rattle.dx_model.specs.Fitting.{cell_variable}
-use Rattle.dx_model.proofs.Ascending.{from_in_order, in_in_order, in_order, in_order_ascends, one_ascending}
+use Rattle.dx_model.proofs.Ascending.{ascending_distinct, from_in_order, in_in_order, in_order, in_order_ascends, one_ascending}
 use Rattle.dx_model.proofs.Decided.{decide_in, same_fact}
 use Rattle.dx_model.proofs.Orders.{tuple_exact, tuple_total}
 use Rattle.dx_model.proofs.RowsExist.{from_variable}
@@ -207,18 +206,11 @@ pub one_certain_list : OneCertainList
 one_certain_list convert R schema I q rows others a b =
     one_ascending tuple_cmp tuple_total rows others a.ascend b.ascend (λ t m. (b.exact t).1 ((a.exact t).0 m)) (λ t m. (a.exact t).1 ((b.exact t).0 m))
 
-ascending_distinct : (rows : List Tuple) → TuplesAscend rows → Distinct rows
-ascending_distinct [] a = tt
-ascending_distinct (t ∷ rows) a = ((λ m. below_itself t (a.0 t m)), ascending_distinct rows a.1)
-  where
-    below_itself : (u : Tuple) → tuple_cmp u u ≡ Less → ⊥
-    below_itself u e = let s = tuple_total.antisymm u u in cc (rw e at s)
-
 pub within_or_passes : WithinOrPasses
 within_or_passes K q rows limit are = elim (cases_order limit (length rows * q.width)) [
   | inl e ↦ inl (omega (arith, e))
   | inr o ↦ elim o [
-    | inl less ↦ inr (record { rows = rows; distinct = ascending_distinct rows are.ascend; each = λ t m. (are.exact t).0 m; more = less })
+    | inl less ↦ inr (record { rows = rows; distinct = ascending_distinct tuple_cmp tuple_total rows are.ascend; each = λ t m. (are.exact t).0 m; more = less })
     | inr more ↦ inl (omega (arith, more))
   ]
 ]
