@@ -1,5 +1,5 @@
 // The conditions of a mapping, the rules of its lines, and its hand-written rules, without those that follow from the others.
-ghost use Rattle.std.specs.Prelude.{◌≡◌, ◌⊎◌, ◌+◌, ◌++◌, ◌≤◌, List, length, Some, None, IfOk, IfErr, OnOk, MatchResult};
+ghost use Rattle.std.specs.Prelude.{◌≡◌, ◌⊎◌, ◌+◌, ◌++◌, ◌≤◌, List, length, IfErr, OnOk, MatchResult};
 ghost use Rattle.dx_ports.specs.Members.{Each};
 ghost use Rattle.dx_model.specs.declared.rules.Rule.{Rule as RuleOf};
 ghost use Rattle.dx_model.specs.Fitting.{AreNumbered, RuleFits};

@@ -1,5 +1,5 @@
 -- When an answer is refused with a clash.
-use Rattle.std.proofs.Common.{◌≡◌, ℕ, List, ◌∙◌, ap, subst, inl, inr, true, false}
+use Rattle.std.proofs.Common.{◌≡◌, ℕ, List, ◌∙◌, ap, subst, inl, inr}
 use Rattle.std.proofs.lemmas.Bool.{true≢false}
 use Rattle.dx_keys.specs.declared.answers.Clash.{Clash}
 use Rattle.dx_exchange.specs.Exchanging.{HasClash}

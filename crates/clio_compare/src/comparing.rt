@@ -1,5 +1,5 @@
 // Two mappings, compared.
-ghost use Rattle.std.specs.Prelude.{◌≡◌, ◌↔◌, ◌≤◌, IfNone, IfOk, IfSome, IsTrue, length};
+ghost use Rattle.std.specs.Prelude.{◌↔◌, ◌≤◌, IfNone, IfOk, IfSome, IsTrue, length};
 ghost use Rattle.dx_ports.specs.declared.limits.TheConstants.{RULES};
 ghost use Rattle.dx_ports.specs.Entries.{entries_of};
 ghost use Rattle.dx_stages.specs.Ending.{planned};

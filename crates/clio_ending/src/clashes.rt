@@ -1,5 +1,5 @@
 // The names of a clash, and its text.
-ghost use Rattle.std.specs.Prelude.{◌≡◌, ◌++◌, [], IfOk, OnOk, codes, map, slice_index_or, string_bytes};
+ghost use Rattle.std.specs.Prelude.{◌≡◌, ◌++◌, [], IfOk, OnOk, codes, map, string_bytes};
 ghost use Rattle.dx_tokens.specs.Quoted.{quoted};
 ghost use Rattle.dx_rule_text.specs.Printed.{separated, table_name as table_text};
 ghost use Rattle.clio_ending.specs.Ending.{column_text, left_columns, named_clash};

@@ -1,6 +1,5 @@
 // How a run ends.
 ghost use Rattle.std.specs.Prelude.{◌≡◌};
-ghost use Rattle.dx_stages.specs.declared.plan.Ended.{Ended as EndedOf};
 ghost use Rattle.dx_stages.specs.Running.{with_refusal};
 ghost use Rattle.clio_ending.specs.Ending.{ending_of, refusal_ending, source_refusal, status_of};
 

@@ -1,6 +1,6 @@
 -- The header and the records of answers, one by one.
-use Rattle.std.proofs.Common.{◌≡◌, ℕ, zero, suc, ◌+◌, ◌<◌, ◌≤◌, List, [], ◌∷◌, ◌++◌, refl, sym, ◌∙◌, ap, arith, get_or, length, map, take}
-use Rattle.std.proofs.lemmas.List.{map-append, take_all, take_more}
+use Rattle.std.proofs.Common.{◌≡◌, ℕ, zero, suc, ◌+◌, ◌<◌, List, [], ◌∷◌, ◌++◌, sym, ◌∙◌, ap, arith, get_or, length, map, take}
+use Rattle.std.proofs.lemmas.List.{map-append, take_more}
 use Rattle.dx_instance.specs.ValueText.{const_text}
 use Rattle.clio_files.specs.Answers.{answers_sheet, column_name, column_names}
 use Rattle.clio_files.proofs.SheetLists.{lines_of}

@@ -1,10 +1,10 @@
 -- The files of a comparison: added one direction after the other; they exist, are one list, and have own names.
-use Rattle.std.proofs.Common.{◌≡◌, ◌⊎◌, ℕ, ◌≤◌, List, [], ◌∷◌, ◌++◌, append_assoc, codes, get_or, length, map, inl, inr, refl, sym, ◌∙◌, ap, subst, arith, Result, Ok, Err}
+use Rattle.std.proofs.Common.{◌≡◌, ℕ, ◌≤◌, List, [], ◌∷◌, ◌++◌, append_assoc, codes, get_or, length, map, inl, inr, refl, sym, ◌∙◌, ap, subst, arith, Result, Ok, Err}
 use Rattle.std.specs.Prelude.{OnOk}
 use Rattle.std.proofs.lemmas.List.{append-nil, append_cancel_left, append_cancel_right, map-append}
-use Rattle.dx_ports.specs.Members.{◌∈◌, here, there, Distinct, Each}
+use Rattle.dx_ports.specs.Members.{◌∈◌, Distinct, Each}
 use Rattle.dx_ports.proofs.Members.{from_append, from_map, in_map}
-use Rattle.dx_instance.specs.Stored.{TableRows, facts, rows_of}
+use Rattle.dx_instance.specs.Stored.{TableRows, facts}
 use Rattle.dx_instance.proofs.StoredFacts.{fact_from_row}
 use Rattle.dx_schema.specs.Forest.{Forest}
 use Rattle.dx_schema.specs.Tables.{AreTables, TableOf, tables_of}
@@ -12,7 +12,7 @@ use Rattle.dx_compare.specs.declared.comparing.Answer.{Answer}
 use Rattle.dx_compare.specs.declared.comparing.Answer.TheVariants as answers
 use Rattle.dx_compare.specs.declared.comparing.Comparison.{Comparison}
 use Rattle.clio_source.specs.Source.{csv_name}
-use Rattle.clio_files.specs.Comparisons.{AddsDirection, AreComparedFiles, AreDirectionFiles, FitsAnswer, HaveNoMarks, source_front, target_front}
+use Rattle.clio_files.specs.Comparisons.{AddsDirection, AreComparedFiles, AreDirectionFiles, HaveNoMarks, source_front, target_front}
 use Rattle.clio_files.specs.Files.{AreTableFiles}
 use Rattle.clio_files.specs.Laws.{ComparedFilesAreOne, ComparedFilesExist, ComparedNamesAreApart, HaveColumns}
 use Rattle.clio_files.specs.Printing.{AddsTables}

@@ -20,7 +20,7 @@ use Rattle.dx_exchange.specs.declared.mode.Mode.{Mode}
 use Rattle.dx_exchange.specs.declared.result.Exchange.{Exchange}
 use Rattle.dx_instance.specs.NullMaps.{pairs_of}
 use Rattle.clio_source.specs.Source.{roots}
-use Rattle.clio_files.specs.Files.{AreFiles, AreTableFiles, IsTableFile}
+use Rattle.clio_files.specs.Files.{AreTableFiles, IsTableFile}
 use Rattle.clio_files.specs.Laws.{FilesAreOne}
 use Rattle.clio_files.specs.Nested.{AreRootFiles, IsRootFile}
 use Rattle.clio_files.specs.Sheets.{AreTargetNulls, PrintedFile, file_of, fold_sheet, nulls_sheet}

@@ -2,10 +2,9 @@
 use Rattle.std.specs.Prelude.{◌≡◌, ◌↔◌, ℕ, ◌+◌, ◌<◌, List, Bool, true, false, length, slice_index_or}
 use Rattle.std.specs.List.{concat, flat_map}
 use Rattle.dx_ports.specs.Members.{◌∈◌}
-use Rattle.dx_ports.specs.Texts.{Text}
 use Rattle.dx_model.specs.declared.values.NullId.{NullId}
 use Rattle.dx_model.specs.declared.values.Value.{Value}
-use Rattle.dx_model.specs.declared.values.Value.TheVariants.{Const, Null}
+use Rattle.dx_model.specs.declared.values.Value.TheVariants.{Null}
 use Rattle.dx_instance.specs.Cells.{NumberTable}
 use Rattle.dx_instance.specs.Numbers.{value_of}
 

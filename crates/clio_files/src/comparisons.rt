@@ -1,5 +1,5 @@
 // The files of a comparison, and what is said of it.
-ghost use Rattle.std.specs.Prelude.{◌≡◌, ◌++◌, IfOk, OnOk, codes, map, string_bytes};
+ghost use Rattle.std.specs.Prelude.{◌≡◌, IfOk, OnOk, map, string_bytes};
 ghost use Rattle.clio_files.specs.Comparisons.{AddsDirection, AreComparedFiles, FitsAnswer, FitsComparison, HaveNoMarks};
 ghost use Rattle.clio_files.specs.Comparisons.{compared_text, direction_text};
 ghost use Rattle.clio_files.specs.Files.{printed_view};

@@ -1,5 +1,5 @@
 // Records that are printed, and how many they are.
-ghost use Rattle.std.specs.Prelude.{◌≡◌, ◌++◌, ◌∷◌, [], ℕ, List, OnOk, length};
+ghost use Rattle.std.specs.Prelude.{◌++◌, ◌∷◌, [], ℕ, List, OnOk};
 ghost use Rattle.std.specs.Fmt.{decimal};
 ghost use Rattle.dx_instance.specs.ValueText.{const_text, value_text_of};
 ghost use Rattle.dx_csv.specs.Lines.{NeedsNoQuotes};

@@ -1,5 +1,5 @@
 // Files of records: what nulls stand for, and what becomes of them.
-ghost use Rattle.std.specs.Prelude.{◌≡◌, ◌<◌, ℕ, List, [], ◌∷◌, ◌++◌, IfOk, OnOk, codes, length, map, slice_index_or};
+ghost use Rattle.std.specs.Prelude.{◌≡◌, ℕ, List, [], ◌∷◌, ◌++◌, IfOk, OnOk, codes, length, map};
 ghost use Rattle.dx_ports.specs.Members.{Each};
 ghost use Rattle.dx_model.specs.Rules.{exported as exported_of};
 ghost use Rattle.dx_rule_text.specs.Printed.{variable_text};
@@ -8,7 +8,7 @@ ghost use Rattle.dx_instance.specs.ValueText.{const_text, null_text, value_text_
 ghost use Rattle.dx_csv.specs.Lines.{NeedsNoQuotes};
 ghost use Rattle.clio_files.specs.Files.{printed_view};
 ghost use Rattle.clio_files.specs.Printing.{AreRecords};
-ghost use Rattle.clio_files.specs.Sheets.{HasTexts, Sheet, file_of, fold_sheet, nulls_sheet, term_records, null_texts};
+ghost use Rattle.clio_files.specs.Sheets.{HasTexts, Sheet, file_of, fold_sheet, nulls_sheet, term_records};
 
 use crate::printed::Printed;
 use crate::records::Records;

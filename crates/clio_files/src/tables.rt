@@ -4,7 +4,6 @@ ghost use Rattle.dx_ports.specs.Members.{Each};
 ghost use Rattle.dx_schema.specs.Tables.{schema_widths, schema_table, tables_of};
 ghost use Rattle.dx_instance.specs.Stored.{rows_of, widths};
 ghost use Rattle.dx_csv.specs.Print.{HasNoMark};
-ghost use Rattle.clio_source.specs.Source.{csv_name};
 ghost use Rattle.clio_files.specs.Files.{IsTableFile, printed_view};
 ghost use Rattle.clio_files.specs.Printing.{AddsTables};
 

@@ -1,11 +1,6 @@
 // The two files of texts: the rules, and their script.
-ghost use Rattle.std.specs.Prelude.{◌≡◌, IfOk, length, map};
-ghost use Rattle.dx_ports.specs.Members.{Each};
-ghost use Rattle.dx_model.specs.Fitting.{RuleFits};
-ghost use Rattle.dx_schema.specs.Tables.{model_tables};
+ghost use Rattle.std.specs.Prelude.{◌≡◌, IfOk, map};
 ghost use Rattle.dx_funcs.specs.Serving.{offered};
-ghost use Rattle.dx_rule_text.specs.Printed.{AreAtomsOf, AreListed};
-ghost use Rattle.dx_script_text.specs.Print.{script_text};
 ghost use Rattle.clio_files.specs.Files.{printed_view};
 ghost use Rattle.clio_files.specs.Texts.{FitTexts, rules_told, script_of, script_told, texts_told};
 

@@ -15,12 +15,11 @@ use Rattle.dx_stages.specs.declared.stop.Stop.TheVariants as stops
 use Rattle.dx_stages.specs.Worlds.{World}
 use Rattle.dx_stages.specs.Ending.{PlanContent}
 use Rattle.dx_stages.specs.Laws.{AsksOtherFiles, AsksOnly}
-use Rattle.dx_stages.specs.Running.{Gives, Ran, with_refusal}
+use Rattle.dx_stages.specs.Running.{Gives, Ran}
 use Rattle.dx_stages.specs.Stages.{Stage, by, next, over, saying}
 use Rattle.dx_stages.proofs.Decided.{apart_by, each_only}
-use Rattle.dx_stages.proofs.Running.{ran_by, ran_into, ran_into_stop, ran_memory, ran_next, ran_over, ran_passes, ran_saying, ran_stop, ran_value, ran_within, silent_apart}
+use Rattle.dx_stages.proofs.Running.{ran_by, ran_into, ran_into_stop, ran_memory, ran_next, ran_over, ran_passes, ran_stop, ran_value, ran_within, silent_apart}
 use Rattle.clio_accept.specs.declared.mapping.Mapping.{Mapping}
-use Rattle.clio_source.specs.declared.fault.SourceRefusal.{SourceRefusal}
 use Rattle.clio_source.specs.Source.{RootShape, at_start, csv_name, file_at, flat, shape_at, named_by, nested, roots, source_left, reading as source_reading}
 use Rattle.clio_source.proofs.Roots.{asks_own as asks_root}
 use Rattle.clio_given.specs.Given.{TargetRequest, given_name, given_stages, none_read, given_reading}

@@ -14,7 +14,6 @@ use Rattle.dx_schema_text.proofs.SpelledWords.{said_is_writable}
 use Rattle.dx_funcs.specs.declared.conversion.Conversion.{Conversion}
 use Rattle.dx_funcs.specs.declared.row_test.RowTest.{RowTest}
 use Rattle.dx_funcs.specs.Offers.{IsOffer}
-use Rattle.dx_line_text.specs.Naming.{lines_fault}
 use Rattle.dx_ports.specs.Texts.{Text}
 use Rattle.dx_tgd_text.specs.Reading.{rule_fault, rules_fault, rule_of_text}
 use Rattle.dx_rule_laws.specs.ReadBack.{IsWritable}
@@ -24,13 +23,11 @@ use Rattle.dx_rule_laws.proofs.LineRules.{line_rules_are_writable}
 use Rattle.dx_rule_laws.proofs.Closings.{closings_are_writable}
 use Rattle.dx_stages.specs.Worlds.{World}
 use Rattle.dx_stages.specs.Stages.{next}
-use Rattle.dx_implies.specs.Pruning.{IsPrunedAlways, PruningPassesLimit}
 use Rattle.dx_implies.proofs.Pruned.{left_implies}
 use Rattle.clio_accept.specs.declared.mapping.Mapping.{Mapping}
 use Rattle.clio_accept.specs.Mapping.{SourceRefused, TargetRefused, NameRefused}
-use Rattle.clio_accept.specs.Mapping.{frozen_cells}
-use Rattle.clio_accept.specs.Mapping.{NoneReserved, AreRulesOf, IsNarrowClosing, rules_of_lines, limit_of, written_of}
-use Rattle.clio_accept.specs.Accepting.{limits, closing}
+use Rattle.clio_accept.specs.Mapping.{NoneReserved, IsNarrowClosing, rules_of_lines, written_of}
+use Rattle.clio_accept.specs.Accepting.{closing}
 use Rattle.clio_accept.specs.Accepting.{accepting, between_of, said_rules, target_names, target_sets, with_rules}
 use Rattle.clio_accept.specs.Laws.{MappingFits}
 use Rattle.clio_accept.proofs.Accepted.{IsTaken, accepted_fits, is_taken, checked}

@@ -1,5 +1,5 @@
 -- A source beside the number of bytes that are left, and without it.
-use Rattle.std.proofs.Common.{◌≡◌, ℕ, List, refl, sym, ap, subst, inl, inr, Result, Ok, Err}
+use Rattle.std.proofs.Common.{ℕ, List, Result, Ok, Err}
 use Rattle.dx_ports.specs.States.{InputState}
 use Rattle.dx_instance.specs.Stored.{TableRows}
 use Rattle.dx_stages.specs.declared.stop.Stop.{Stop}

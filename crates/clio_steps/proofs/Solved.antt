@@ -1,5 +1,5 @@
 -- What is accepted and read has a solution or none.
-use Rattle.std.proofs.Common.{◌≡◌, ◌⊎◌, ◌≤◌, ℕ, List, refl, sym, ◌∙◌, ap, subst, inl, inr, arith}
+use Rattle.std.proofs.Common.{◌⊎◌, ◌≤◌, ℕ, List, refl, sym, ◌∙◌, ap, subst, inl, inr, arith}
 use Rattle.std.proofs.lemmas.Option.{same_Some}
 use Rattle.dx_model.specs.Rules.{AreRows}
 use Rattle.dx_model.specs.Solutions.{IsSolution}

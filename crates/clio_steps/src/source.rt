@@ -1,5 +1,4 @@
 // The rows of the source files.
-ghost use Rattle.std.specs.Prelude.{◌≡◌};
 ghost use Rattle.dx_ports.specs.Members.{Each};
 ghost use Rattle.dx_stages.specs.Stages.{saying};
 ghost use Rattle.dx_funcs.specs.Judging.{Decides, tested};

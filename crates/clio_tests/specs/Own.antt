@@ -1,5 +1,5 @@
 -- A row test of one's own.
-use Rattle.std.specs.Prelude.{◌≡◌, ◌==◌, ℕ, Bool, false, List, [], ◌∷◌, if◌then◌else◌}
+use Rattle.std.specs.Prelude.{◌==◌, ℕ, Bool, false, List, [], ◌∷◌, if◌then◌else◌}
 
 -- what passes: 7 asks for a text that begins with `a`; nothing passes another code
 abbrev pub begins_with_a : ℕ → List ℕ → Bool

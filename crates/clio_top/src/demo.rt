@@ -1,5 +1,5 @@
 // What is said of the exchange of a demo.
-ghost use Rattle.std.specs.Prelude.{◌≡◌, ◌++◌, codes, IfOk, OnOk, length, string_bytes};
+ghost use Rattle.std.specs.Prelude.{◌≡◌, ◌++◌, codes, IfOk, OnOk, string_bytes};
 ghost use Rattle.std.specs.Fmt.{decimal};
 ghost use Rattle.dx_stages.specs.Ending.{planned, planned_of};
 ghost use Rattle.dx_stages.specs.Running.{Gives};

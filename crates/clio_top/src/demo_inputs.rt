@@ -1,8 +1,6 @@
 // The files of a demo as what a run reads from.
-ghost use Rattle.std.specs.Prelude.{◌≡◌, ◌≤◌, ◌<◌, [], length, None, Some, OnOk, OnErr, IfSome, IsErrOf, IsSomeAnd};
-ghost use Rattle.std.specs.FinMap.{get};
+ghost use Rattle.std.specs.Prelude.{None, Some};
 ghost use Rattle.dx_ports.specs.Entries.{file_map};
-ghost use Rattle.dx_ports.specs.Faults.{Rose};
 
 use dx_ports::{FetchFault, File, Inputs, Text, bytes_named};
 

@@ -1,5 +1,5 @@
 // Data, exchanged, and what is written of it.
-ghost use Rattle.std.specs.Prelude.{◌≡◌, IfOk};
+ghost use Rattle.std.specs.Prelude.{IfOk};
 ghost use Rattle.dx_stages.specs.Ending.{planned, planned_of};
 ghost use Rattle.dx_stages.specs.Running.{Ran};
 ghost use Rattle.dx_funcs.specs.Judging.{Decides, tested};

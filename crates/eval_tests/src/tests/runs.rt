@@ -1,5 +1,5 @@
 // Runs of the plain and of the rewritten script of mappings.
-ghost use Rattle.std.specs.Prelude.{◌≡◌, ◌<◌, ◌-◌, ◌^◌, [], IfOk, length};
+ghost use Rattle.std.specs.Prelude.{◌≡◌, ◌-◌, [], IfOk, length};
 ghost use Rattle.dx_schema.specs.Names.{table_names_of};
 ghost use Rattle.dx_schema.specs.Tables.{schema_widths};
 ghost use Rattle.dx_funcs.specs.Offers.{IsListed};

@@ -1,4 +1,4 @@
-use Rattle.std.proofs.Common.{arith, ◌++◌, ◌∷◌, [], ℕ, List, map, refl, subst, take}
+use Rattle.std.proofs.Common.{arith, ℕ, List, refl, subst, take}
 use Rattle.std.specs.Prelude.{codes}
 use Rattle.std.proofs.lemmas.List.{take_all}
 use Rattle.clio_files.specs.Answers.{answers_sheet}

@@ -1,4 +1,4 @@
-use Rattle.std.proofs.Common.{◌≡◌, [], ◌∷◌, arith, subst}
+use Rattle.std.proofs.Common.{◌≡◌, [], arith, subst}
 use Rattle.clio_files.specs.Answers.{column_names}
 use Rattle.clio_files.specs.Printing.{HasFields}
 use Rattle.clio_files.proofs.AnswerLists.{names_more}
