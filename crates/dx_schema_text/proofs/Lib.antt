@@ -10,6 +10,7 @@ pub mod Printing
 pub mod PrintScans
 pub mod PrintReads
 pub mod PrintExamples
+pub mod ReadExamples
 pub mod Versions
 pub mod SpelledWords
 pub mod FewRules

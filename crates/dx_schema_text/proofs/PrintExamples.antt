@@ -1,12 +1,17 @@
 -- Worked values of printed sets.
-use Rattle.std.proofs.Common.{◌≡◌, true, false, [], ◌∷◌, refl, arith}
+use Rattle.std.proofs.Common.{◌≡◌, true, false, [], ◌∷◌, ◌++◌, refl, ap, arith}
 use Rattle.std.specs.Prelude.{codes}
 use Rattle.std.proofs.lemmas.Bool.{false≢true}
 use Rattle.dx_ports.specs.Members.{here}
 use Rattle.dx_ports.proofs.Members.{each_cons}
-use Rattle.dx_schema.specs.Forest.{Label, bare_set, none, set}
-use Rattle.dx_schema_text.specs.Print.{printed, HasWordNames, IsOfVersion, AreWritable}
+use Rattle.dx_schema.specs.Forest.{Label, bare_set, none, set, has_sets}
+use Rattle.dx_schema_text.specs.declared.texts.MappingText.{MappingText}
+use Rattle.dx_schema_text.specs.Print.{AreNames, AreWritable, HasWordNames, IsOfVersion, IsReadAgain, printed}
+use Rattle.dx_schema_text.specs.Print.{sides, sides_text}
+use Rattle.dx_schema_text.specs.Texts.{IsMappingText}
+use Rattle.dx_schema_text.proofs.Answered.{one_mapping}
 use Rattle.dx_schema_text.proofs.PrintScans.{a_word}
+use Rattle.dx_schema_text.proofs.ReadExamples.{printed_sides, says}
 use Rattle.dx_schema_text.proofs.SpelledWords.{each_none}
 
 abbrev staff : Label
@@ -95,3 +100,50 @@ address_is_writable = record { named = (address_named, tt, tt); sayable = (recor
 
 address_comes_later : ¬ (IsOfVersion 2 address)
 address_comes_later said = absurd (false≢true (said.deps _ (here refl)))
+
+-- keys come first, then dependencies, then refs, then inner sets, each kind in its order
+abbrev all_parts : Label
+all_parts = record {
+  name = codes "a";
+  columns = codes "x" ∷ codes "y" ∷ [];
+  keys = record { columns = codes "x" ∷ codes "y" ∷ [] } ∷ record { columns = codes "y" ∷ [] } ∷ [];
+  deps =
+    record { columns = codes "x" ∷ []; decides = codes "y" ∷ codes "x" ∷ [] }
+    ∷ record { columns = codes "y" ∷ codes "x" ∷ []; decides = codes "x" ∷ [] } ∷ [];
+  refs =
+    record { columns = codes "x" ∷ []; set = codes "b"; referred = codes "z" ∷ []; optional = true }
+    ∷ record { columns = codes "y" ∷ []; set = codes "c"; referred = codes "z" ∷ []; optional = false } ∷ [];
+}
+
+parts_in_order : printed (codes " ") (set all_parts (set staff none none) none)
+    ≡ codes " set a {\n   x, y;\n   key (x, y);\n   key (y);\n"
+    ++ (codes "   dep (x) -> (y, x);\n   dep (y, x) -> (x);\n"
+    ++ (codes "   ref (x) -> b (z) optional;\n   ref (y) -> c (z);\n"
+    ++ codes "   set staff {\n     sname;\n   }\n }\n"))
+parts_in_order = refl
+
+-- a mapping of a version with two sides and nothing else
+whole_text : sides_text 2 (codes "FROM") (codes "TO") ≡ codes "mapping 2;\nsource {\nFROM}\ntarget {\nTO}\n"
+whole_text = refl
+
+-- an empty list of names can't be written, in a key too
+no_names : ¬ (AreNames [])
+no_names names = absurd names
+
+no_key_of_nothing : ¬ (HasWordNames (record {
+  name = codes "a";
+  columns = codes "x" ∷ [];
+  keys = record { columns = [] } ∷ [];
+  deps = [];
+  refs = [];
+}))
+no_key_of_nothing named = absurd (named.keys _ (here refl))
+
+-- a text of other sets is not that of these
+not_of_others : ¬ (IsReadAgain 1 (set staff none none) [])
+not_of_others r = absurd (false≢true (ap (λ (m : MappingText). has_sets m.source) (one_mapping _ _ _ nothing said)))
+  where
+    said : IsMappingText (sides_text 1 [] []) (sides 1 (set staff none none) none)
+    said = r.source none (record { named = tt; sayable = tt; levels = omega arith })
+    nothing : IsMappingText (sides_text 1 [] []) (sides 1 none none)
+    nothing = says (sides_text 1 [] []) (sides 1 none none) printed_sides
