@@ -165,13 +165,13 @@ by_hand =
       premise = record { set = codes "emp"; place = 5; cells = Name (codes "n") 9 ∷ [] } ∷ [];
       derived = [];
       conclusion =
-        record { set = codes "staff"; place = 15; cells = Name (codes "v") 21 ∷ Name (codes "n") 24 ∷ [] } ∷ [];
+          record { set = codes "staff"; place = 15; cells = Name (codes "v") 21 ∷ Name (codes "n") 24 ∷ [] } ∷ [];
     }
     ∷ record {
       premise = record { set = codes "emp"; place = 33; cells = Name (codes "n") 37 ∷ [] } ∷ [];
       derived = [];
       conclusion =
-        record { set = codes "unit"; place = 43; cells = Name (codes "n") 48 ∷ Name (codes "n") 51 ∷ [] } ∷ [];
+          record { set = codes "unit"; place = 43; cells = Name (codes "n") 48 ∷ Name (codes "n") 51 ∷ [] } ∷ [];
     } ∷ []
 
 abbrev closed_by_hand : List Rule
@@ -180,7 +180,7 @@ closed_by_hand =
       premise = record { table = 0; cells = Var 0 ∷ [] } ∷ [];
       derived = [];
       conclusion =
-        record { table = 1; cells = Ex 0 ∷ Var 0 ∷ [] } ∷ record { table = 0; cells = Ex 0 ∷ Ex 1 ∷ [] } ∷ [];
+          record { table = 1; cells = Ex 0 ∷ Var 0 ∷ [] } ∷ record { table = 0; cells = Ex 0 ∷ Ex 1 ∷ [] } ∷ [];
     }
     ∷ record {
       premise = record { table = 0; cells = Var 0 ∷ [] } ∷ [];
@@ -203,11 +203,14 @@ lines_first = record {
       premise = omega arith;
       conclusion = omega arith;
     },
-    (record {
-      closing = record { premise = refl; derived = refl; conclusion = refl };
-      premise = omega arith;
-      conclusion = omega arith;
-    }, tt)
+    (
+      record {
+        closing = record { premise = refl; derived = refl; conclusion = refl };
+        premise = omega arith;
+        conclusion = omega arith;
+      },
+      tt,
+    ),
   );
   are = refl;
 }

@@ -495,7 +495,7 @@ this_clash : (P : Program) (mode : Mode) (k : Clash) (table : Text) (key : List 
     → HasClash P.apply (exchange_input mode (mapping, emp_rows)) k → refusals.Clash k table key column ≡ named_clash persons k
     → IsSmallClash k table key column
 this_clash P mode k table key column h is =
-    let found = matches_are clashing_world two P.apply (person_atom ∷ []) h.rows refl h.are in
+    let found = matches_are clashing_world two P.apply (person_atom ∷ []) h.matches refl h.are in
     let clash = subst (λ (r : Rows). IsClash schema (meant mode (rule ∷ []) r) k) found h.clash in
     let place = only_key k.table k.key clash.key in
     let at = subst (λ (m : ℕ). IsClashAt schema (after k.steps (meant mode (rule ∷ []) matches)) (fact_of_row 0 k.left) (fact_of_row 0 k.right) (determination_at schema 0 m) k.column) place.1

@@ -134,3 +134,7 @@ other_derived h = let d : ◌≡◌ {A = ℕ} 2 1 = ap (λ (ds : List Derived). 
 -- and what is not closed is no closing
 not_closed : ¬ IsClosingOf (model_tables units) open_rule open_rule
 not_closed h = let d : ◌≡◌ {A = ℕ} 2 1 = ap (λ (xs : List Atom). length xs) h.conclusion in omega (arith, d)
+
+-- nor one that has lost its conclusion
+lost_conclusion : ¬ IsClosingOf (model_tables units) open_rule (hired (Var 0 ∷ Var 1 ∷ []) (1 ∷ []) [])
+lost_conclusion h = let d : ◌≡◌ {A = ℕ} 2 0 = ap (λ (xs : List Atom). length xs) h.conclusion in omega (arith, d)

@@ -273,35 +273,56 @@ to_self_form = refl
 
 -- of the first set, which has none before it
 cyclic_self : IsFirstSchemaFault to_self (Bad (CyclicLinks a))
-cyclic_self = inr (refl, (0, record {
-  within = omega arith;
-  cycle = directly (record { from = 0 ∷ []; table = 0; to = 0 ∷ [] }) (here refl);
-  first = λ u lt. absurd (omega (arith, lt));
-}, refl))
+cyclic_self = inr (
+  refl,
+  (
+    0,
+    record {
+      within = omega arith;
+      cycle = directly (record { from = 0 ∷ []; table = 0; to = 0 ∷ [] }) (here refl);
+      first = λ u lt. absurd (omega (arith, lt));
+    },
+    refl,
+  ),
+)
 
 -- so it is if the ref is optional
 abbrev to_self_maybe : Forest
 to_self_maybe = set (with_parts (x ∷ []) [] [] (optional_to (x ∷ []) a (x ∷ []) ∷ [])) none none
 
 cyclic_optional : IsFirstSchemaFault to_self_maybe (Bad (CyclicLinks a))
-cyclic_optional = inr (refl, (0, record {
-  within = omega arith;
-  cycle = directly (record { from = 0 ∷ []; table = 0; to = 0 ∷ [] }) (here refl);
-  first = λ u lt. absurd (omega (arith, lt));
-}, refl))
+cyclic_optional = inr (
+  refl,
+  (
+    0,
+    record {
+      within = omega arith;
+      cycle = directly (record { from = 0 ∷ []; table = 0; to = 0 ∷ [] }) (here refl);
+      first = λ u lt. absurd (omega (arith, lt));
+    },
+    refl,
+  ),
+)
 
 -- an inner set leads to the one that it is in: a ref from there leads back
 abbrev to_inner : Forest
 to_inner = inside (with_parts (x ∷ []) [] [] (ref_to (x ∷ []) b (y ∷ []) ∷ [])) (plain b (y ∷ []))
 
 cyclic_inner : IsFirstSchemaFault to_inner (Bad (CyclicLinks a))
-cyclic_inner = inr (refl, (0, record {
-  within = omega arith;
-  cycle =
-    further (record { from = 0 ∷ []; table = 0; to = 0 ∷ [] })
-    (directly (record { from = 1 ∷ []; table = 1; to = 1 ∷ [] }) (here refl)) (here refl);
-  first = λ u lt. absurd (omega (arith, lt));
-}, refl))
+cyclic_inner = inr (
+  refl,
+  (
+    0,
+    record {
+      within = omega arith;
+      cycle =
+          further (record { from = 0 ∷ []; table = 0; to = 0 ∷ [] })
+          (directly (record { from = 1 ∷ []; table = 1; to = 1 ∷ [] }) (here refl)) (here refl);
+      first = λ u lt. absurd (omega (arith, lt));
+    },
+    refl,
+  ),
+)
 
 -- a set from which links lead to such a set is none itself
 abbrev into_circle : Forest
@@ -321,8 +342,15 @@ not_to_the_first t u (directly l m) = to_the_second t l m
 not_to_the_first t u (further {u = v} l h m) = to_the_second v l m
 
 cyclic_second : IsFirstSchemaFault into_circle (Bad (CyclicLinks b))
-cyclic_second = inr (refl, (1, record {
-  within = omega arith;
-  cycle = directly (record { from = 0 ∷ []; table = 1; to = 0 ∷ [] }) (here refl);
-  first = λ u lt h. absurd (omega (arith, not_to_the_first u u h, lt));
-}, refl))
+cyclic_second = inr (
+  refl,
+  (
+    1,
+    record {
+      within = omega arith;
+      cycle = directly (record { from = 0 ∷ []; table = 1; to = 0 ∷ [] }) (here refl);
+      first = λ u lt h. absurd (omega (arith, not_to_the_first u u h, lt));
+    },
+    refl,
+  ),
+)

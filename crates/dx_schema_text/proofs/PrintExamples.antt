@@ -108,11 +108,11 @@ all_parts = record {
   columns = codes "x" ∷ codes "y" ∷ [];
   keys = record { columns = codes "x" ∷ codes "y" ∷ [] } ∷ record { columns = codes "y" ∷ [] } ∷ [];
   deps =
-    record { columns = codes "x" ∷ []; decides = codes "y" ∷ codes "x" ∷ [] }
-    ∷ record { columns = codes "y" ∷ codes "x" ∷ []; decides = codes "x" ∷ [] } ∷ [];
+      record { columns = codes "x" ∷ []; decides = codes "y" ∷ codes "x" ∷ [] }
+      ∷ record { columns = codes "y" ∷ codes "x" ∷ []; decides = codes "x" ∷ [] } ∷ [];
   refs =
-    record { columns = codes "x" ∷ []; set = codes "b"; referred = codes "z" ∷ []; optional = true }
-    ∷ record { columns = codes "y" ∷ []; set = codes "c"; referred = codes "z" ∷ []; optional = false } ∷ [];
+      record { columns = codes "x" ∷ []; set = codes "b"; referred = codes "z" ∷ []; optional = true }
+      ∷ record { columns = codes "y" ∷ []; set = codes "c"; referred = codes "z" ∷ []; optional = false } ∷ [];
 }
 
 parts_in_order : printed (codes " ") (set all_parts (set staff none none) none)
@@ -145,5 +145,6 @@ not_of_others r = absurd (false≢true (ap (λ (m : MappingText). has_sets m.sou
   where
     said : IsMappingText (sides_text 1 [] []) (sides 1 (set staff none none) none)
     said = r.source none (record { named = tt; sayable = tt; levels = omega arith })
+
     nothing : IsMappingText (sides_text 1 [] []) (sides 1 none none)
     nothing = says (sides_text 1 [] []) (sides 1 none none) printed_sides

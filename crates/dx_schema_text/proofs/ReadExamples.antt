@@ -101,13 +101,13 @@ any_order :
       keys = record { columns = codes "x" ∷ codes "y" ∷ [] } ∷ record { columns = codes "y" ∷ [] } ∷ [];
       deps = [];
       refs =
-        record {
-          columns = codes "x" ∷ codes "y" ∷ [];
-          set = codes "c";
-          referred = codes "v" ∷ codes "w" ∷ [];
-          optional = false;
-        }
-        ∷ record { columns = codes "y" ∷ []; set = codes "e"; referred = codes "w" ∷ []; optional = false } ∷ [];
+          record {
+            columns = codes "x" ∷ codes "y" ∷ [];
+            set = codes "c";
+            referred = codes "v" ∷ codes "w" ∷ [];
+            optional = false;
+          }
+          ∷ record { columns = codes "y" ∷ []; set = codes "e"; referred = codes "w" ∷ []; optional = false } ∷ [];
     })
     (set (plain (codes "b") (codes "z" ∷ [])) none (set (plain (codes "d") (codes "u" ∷ [])) none none)) none) none)
 unfolding read
@@ -131,8 +131,8 @@ optional_ref :
       keys = [];
       deps = [];
       refs =
-        record { columns = codes "y" ∷ []; set = codes "c"; referred = codes "w" ∷ []; optional = false }
-        ∷ record { columns = codes "y" ∷ []; set = codes "d"; referred = codes "v" ∷ []; optional = true } ∷ [];
+          record { columns = codes "y" ∷ []; set = codes "c"; referred = codes "w" ∷ []; optional = false }
+          ∷ record { columns = codes "y" ∷ []; set = codes "d"; referred = codes "v" ∷ []; optional = true } ∷ [];
     }) none none) none) none)
 unfolding read
 optional_ref = refl
@@ -147,8 +147,8 @@ dependencies :
       columns = codes "x" ∷ codes "y" ∷ [];
       keys = record { columns = codes "y" ∷ [] } ∷ [];
       deps =
-        record { columns = codes "x" ∷ []; decides = codes "y" ∷ [] }
-        ∷ record { columns = codes "y" ∷ codes "x" ∷ []; decides = codes "x" ∷ codes "y" ∷ [] } ∷ [];
+          record { columns = codes "x" ∷ []; decides = codes "y" ∷ [] }
+          ∷ record { columns = codes "y" ∷ codes "x" ∷ []; decides = codes "x" ∷ codes "y" ∷ [] } ∷ [];
       refs = record { columns = codes "x" ∷ []; set = codes "b"; referred = codes "z" ∷ []; optional = true } ∷ [];
     }) none none) none)
 unfolding read
@@ -197,8 +197,8 @@ three_lines :
     ∷ record { source = Literal (codes "k"); target = column_at (codes "t") 50 (codes "v") 52 }
     ∷ record {
       source =
-        Call (codes "f") 59
-        (column_at (codes "a") 61 (codes "x") 63 ∷ column_at (codes "c") 65 (codes "z") 67 ∷ []);
+          Call (codes "f") 59
+          (column_at (codes "a") 61 (codes "x") 63 ∷ column_at (codes "c") 65 (codes "z") 67 ∷ []);
       target = column_at (codes "t") 71 (codes "w") 73;
     } ∷ []) [] [])
 unfolding read
@@ -211,26 +211,26 @@ whole_rule :
     (items_alone 1 [] []
     (record {
       premise =
-        record { set = codes "a"; place = 31; cells = cells.Name (codes "p") 33 ∷ cells.Name (codes "q") 35 ∷ [] }
-        ∷ record { set = codes "c"; place = 38; cells = cells.Name (codes "p") 40 ∷ [] } ∷ [];
+          record { set = codes "a"; place = 31; cells = cells.Name (codes "p") 33 ∷ cells.Name (codes "q") 35 ∷ [] }
+          ∷ record { set = codes "c"; place = 38; cells = cells.Name (codes "p") 40 ∷ [] } ∷ [];
       derived =
-        record {
-          name = codes "r";
-          place = 48;
-          call = codes "f";
-          call_place = 50;
-          args = cells.Name (codes "p") 52 ∷ cells.Name (codes "q") 54 ∷ [];
-        }
-        ∷ record {
-          name = codes "s";
-          place = 57;
-          call = codes "g";
-          call_place = 59;
-          args = cells.Name (codes "r") 61 ∷ [];
-        } ∷ [];
+          record {
+            name = codes "r";
+            place = 48;
+            call = codes "f";
+            call_place = 50;
+            args = cells.Name (codes "p") 52 ∷ cells.Name (codes "q") 54 ∷ [];
+          }
+          ∷ record {
+            name = codes "s";
+            place = 57;
+            call = codes "g";
+            call_place = 59;
+            args = cells.Name (codes "r") 61 ∷ [];
+          } ∷ [];
       conclusion =
-        record { set = codes "t"; place = 65; cells = cells.Name (codes "r") 67 ∷ cells.Literal (codes "k") ∷ [] }
-        ∷ record { set = codes "u"; place = 74; cells = cells.Name (codes "n") 76 ∷ [] } ∷ [];
+          record { set = codes "t"; place = 65; cells = cells.Name (codes "r") 67 ∷ cells.Literal (codes "k") ∷ [] }
+          ∷ record { set = codes "u"; place = 74; cells = cells.Name (codes "n") 76 ∷ [] } ∷ [];
     } ∷ []))
 unfolding read
 whole_rule = refl
