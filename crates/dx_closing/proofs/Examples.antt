@@ -137,4 +137,4 @@ not_closed h = let d : ◌≡◌ {A = ℕ} 2 1 = ap (λ (xs : List Atom). length
 
 -- nor one that has lost its conclusion
 lost_conclusion : ¬ IsClosingOf (model_tables units) open_rule (hired (Var 0 ∷ Var 1 ∷ []) (1 ∷ []) [])
-lost_conclusion h = let d : ◌≡◌ {A = ℕ} 2 0 = ap (λ (xs : List Atom). length xs) h.conclusion in omega (arith, d)
+lost_conclusion h = let d : ◌≡◌ {A = ℕ} 1 0 = ap (λ (xs : List Atom). length xs) h.conclusion in omega (arith, d)
