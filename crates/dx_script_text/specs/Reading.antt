@@ -1,6 +1,6 @@
 -- What the forms of scripts say: a reader for each.
 use Rattle.std.specs.Prelude.{ℕ, ◌-◌, Bool, ◌||◌, List, [], ◌∷◌, length}
-use Rattle.dx_grammar.specs.Readers.{Reader, give, token, either, many, with_front}
+use Rattle.dx_grammar.specs.Readers.{Reader, ◌>>=◌, give, token, either, many, with_front}
 use Rattle.dx_grammar.specs.Lists.{past, list_reader}
 use Rattle.dx_grammar.specs.Numbers.{counted_reader, Knower, ◌then◌, giving, always, number_token, choosing, knowing, number_then, unknowing}
 use Rattle.dx_script.specs.declared.form.CellRef.{CellRef}
