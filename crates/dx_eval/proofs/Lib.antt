@@ -13,3 +13,4 @@ mod Partners
 mod Inserts
 mod Running
 mod Examples
+mod FitExamples

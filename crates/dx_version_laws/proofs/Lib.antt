@@ -1,2 +1,3 @@
 mod Examples
+mod SchemaExamples
 pub mod Plain
