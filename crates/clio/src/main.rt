@@ -1,28 +1,35 @@
 //! The program: it reads `./NAME`, writes `./out/NAME`, and says to standard output.
 //!
 //! `main` gives the top call `run` of `clio_top` the words of the command line, the working folder (`clio_folder`), and the shipped
-//! conversions and row tests, says the message of an ending that is not `Done` to standard error, and ends with its status. If there
-//! is no memory for the words, the conversions or the row tests, nothing is printed, and the status is 9.
+//! conversions and row tests, says the message of an ending that is not `Done` to standard error, and ends with its status (specs/Exit).
+//! If there is no memory for the words, the conversions or the row tests, nothing is printed, and the status is 9.
 #![tactic(auto)]
 
 ghost use Rattle.std.specs.Prelude.{◌≡◌, [], IfOk, length, map};
 ghost use Rattle.std.specs.Process.{exit_status};
-ghost use Rattle.dx_ports.specs.Members.{◌∈◌};
+ghost use Rattle.dx_base.specs.Members.{◌∈◌};
 ghost use Rattle.dx_funcs.specs.Judging.{Decides};
 ghost use Rattle.dx_funcs.specs.Offers.{IsListed};
 ghost use Rattle.dx_funcs.specs.Serving.{Serves};
 ghost use Rattle.dx_funcs.specs.Shipped.{shipped_apply, shipped_conversions, shipped_passes, shipped_row_tests};
+ghost use Rattle.dx_funcs.specs.Judging.{tested};
+ghost use Rattle.dx_funcs.specs.Serving.{offered};
 ghost use Rattle.clio_ending.specs.Ending.{status_of};
 ghost use Rattle.clio_ending.specs.declared.ending.Ending.TheVariants.{Memory};
+ghost use Rattle.clio_ending.specs.declared.ending.Ending.{Ending as EndingOf};
+ghost use Rattle.clio_steps.specs.Steps.{program};
+ghost use Rattle.clio_top.specs.Right.{IsRight};
+ghost use Rattle.clio.specs.Exit.{IsExit};
 
 use clio_folder::{FolderInputs, FolderOutputs};
 use clio_status::status_and_message;
 use clio_top::{Ending, run};
+use dx_base::{Items, Text};
 use dx_funcs::{Host, Meaning, Shipped, Tests, check_row, convert, shipped_list, shipped_tests};
-use dx_ports::{Items, Text};
+use dx_ports::{Inputs, Outputs};
 use std::alloc::{AllocError, Global};
 use std::process::ExitCode;
-use std::rt::{Env, Files};
+use std::rt::Env;
 use std::{env, io};
 
 // So many bytes are taken at first, and given back. The C library maps a block afresh if it is greater than each that it
@@ -74,10 +81,12 @@ fn no_memory() -> ExitCode
     ExitCode::from(9)
 }
 
-// A run of these words in the working folder, and its status.
-fn run_here<F, P, M>(
-    rt: &(impl Files + Print + Eprint + AllocGlobal),
+// A run of these words over what is read from and written to, and its status.
+fn run_over<I: Inputs, O: Outputs, F, P, M>(
+    rt: &(impl Eprint + AllocGlobal),
     words: &Vec<Text>,
+    inputs: &mut I,
+    outputs: &mut O,
     host: &Host<F, M>,
     tests: &Tests<P, M>,
 ) -> ExitCode
@@ -87,10 +96,12 @@ where
     M: Meaning,
     requires serves { Serves F.Fn M.apply host.now }
     requires decides { Decides P.Fn M.passes tests.now }
+    ensures { (e : EndingOf) × (exit_status result ≡ status_of e)
+        × IsRight (program (offered host.now) (tested tests.now) M.apply M.passes) words.now.items e
+        (I.state inputs.old) (I.state inputs.new) (O.state outputs.old) (O.state outputs.new)
+        (O.faults outputs.old) (O.faults outputs.new) }
 {
-    let mut inputs = FolderInputs::new(rt);
-    let mut outputs = FolderOutputs::new(rt);
-    let ending = run(rt.alloc(), words, &mut inputs, &mut outputs, host, tests);
+    let ending = run(rt.alloc(), words, inputs, outputs, host, tests);
     ended(rt, ending)
 }
 
@@ -102,12 +113,17 @@ fn passes(code: u32, text: &Text) -> Result<bool, AllocError>
     check_row(code, text)
 }
 
-fn main(rt: HostRuntime) -> ExitCode {
+// A run of these words with the shipped conversions and row tests, over what is read from and written to, and its status.
+fn run_shipped<I: Inputs, O: Outputs>(
+    rt: &(impl Eprint + AllocGlobal),
+    words: &Vec<Text>,
+    inputs: &mut I,
+    outputs: &mut O,
+) -> ExitCode
+    ensures { IsExit words.now.items (exit_status result) (I.state inputs.old) (I.state inputs.new)
+        (O.state outputs.old) (O.state outputs.new) (O.faults outputs.old) (O.faults outputs.new) }
+{
     let alloc = rt.alloc();
-    let _ = first_block(alloc);
-    let Ok(words) = words(&rt) else {
-        return no_memory();
-    };
     let Ok(list) = shipped_list(alloc) else {
         return no_memory();
     };
@@ -124,5 +140,15 @@ fn main(rt: HostRuntime) -> ExitCode {
         ensures { IfOk result (λ b. b ≡ shipped_passes code text.entry.now) }
     { passes(code, text) };
     let tests: Tests<_, Shipped> = Tests::build(listed, row_tests);
-    run_here(&rt, &words, &host, &tests)
+    run_over(rt, words, inputs, outputs, &host, &tests)
+}
+
+fn main(rt: HostRuntime) -> ExitCode {
+    let _ = first_block(rt.alloc());
+    let Ok(words) = words(&rt) else {
+        return no_memory();
+    };
+    let mut inputs = FolderInputs::new(&rt);
+    let mut outputs = FolderOutputs::new(&rt);
+    run_shipped(&rt, &words, &mut inputs, &mut outputs)
 }

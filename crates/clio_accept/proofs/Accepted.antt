@@ -2,8 +2,8 @@
 use Rattle.std.proofs.Common.{◌≡◌, ◌≤◌, ℕ, ◌+◌, ◌<◌, List, length, None, refl, sym, ◌∙◌, subst, ap, arith, inl, inr, ◌-◌, ◌^◌, Result, Ok, Err}
 use Rattle.std.specs.Prelude.{map, flat_map, IfOk}
 use Rattle.std.proofs.lemmas.List.{length-map}
-use Rattle.dx_ports.specs.Members.{◌∈◌, here, there, Each}
-use Rattle.dx_ports.proofs.Members.{from_append, from_map, from_flat_map}
+use Rattle.dx_base.specs.Members.{◌∈◌, here, there, Each}
+use Rattle.dx_base.proofs.Members.{from_append, from_map, from_flat_map}
 use Rattle.dx_model.specs.declared.rules.Cell.{Cell}
 use Rattle.dx_model.specs.declared.rules.Cell.TheVariants as cells
 use Rattle.dx_model.specs.declared.rules.Derived.{Derived}

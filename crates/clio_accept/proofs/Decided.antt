@@ -3,9 +3,9 @@ use Rattle.std.proofs.Common.{◌≡◌, ◌⊎◌, ℕ, zero, suc, ◌+◌, ◌
 use Rattle.std.specs.Prelude.{Option}
 use Rattle.std.specs.Cmp.Lexicographic.{pointwise, bytes_decides}
 use Rattle.std.proofs.lemmas.Bool.{cases_lt, cases_eq, cases_Bool, true≢false}
-use Rattle.dx_ports.specs.declared.file.Count.TheVariants.{FrozenCells, Lines, Rules}
-use Rattle.dx_ports.specs.Members.{Each}
-use Rattle.dx_ports.proofs.Lists.{none_or_some}
+use Rattle.dx_base.specs.declared.file.Count.TheVariants.{FrozenCells, Lines, Rules}
+use Rattle.dx_base.specs.Members.{Each}
+use Rattle.dx_base.proofs.Lists.{none_or_some}
 use Rattle.dx_model.specs.Fitting.{IsRule}
 use Rattle.dx_model.specs.Following.{underived}
 use Rattle.dx_tgd_text.specs.Laws.{IsWholeRule}

@@ -1,6 +1,6 @@
 -- Reserved names, what is answered of each fault, and numbers that are too large.
 use Rattle.std.proofs.Common.{◌≡◌, ℕ, zero, suc, ◌<◌, List, [], ◌∷◌, codes, get_or, inl, inr, refl, ap, arith}
-use Rattle.dx_ports.specs.declared.file.Count.TheVariants.{Candidates, Columns, Depth, FrozenCells, Lines, Rules}
+use Rattle.dx_base.specs.declared.file.Count.TheVariants.{Candidates, Columns, Depth, FrozenCells, Lines, Rules}
 use Rattle.dx_model.specs.declared.rules.Cell.TheVariants.{Var, Ex}
 use Rattle.dx_model.specs.declared.rules.Rule.{Rule}
 use Rattle.dx_schema.specs.declared.fault.SchemaFault.TheVariants as schema_faults
@@ -20,7 +20,8 @@ use Rattle.dx_tgd.specs.declared.fault.CanonFault.TheVariants as canon_faults
 use Rattle.clio_accept.specs.declared.fault.AcceptFault.{AcceptFault}
 use Rattle.clio_accept.specs.declared.fault.AcceptFault.TheVariants.{Limit, Mapping, Memory}
 use Rattle.clio_accept.specs.declared.fault.MapFault.TheVariants.{Reserved, Source, Target, Text}
-use Rattle.clio_accept.specs.Mapping.{AreRulesOf, frozen_refusal, IsReserved, limit_refusal, LinesRefused, NameRefused}
+use Rattle.clio_accept.specs.Mapping.{AreRulesOf, frozen_refusal, IsFirstReserved, IsReserved, limit_refusal}
+use Rattle.clio_accept.specs.Mapping.{LinesRefused, NameRefused}
 use Rattle.clio_accept.specs.Mapping.{NoneReserved, RulesRefused, source_sets_refusal, target_refusal, text_refusal}
 
 nulls_is_reserved : IsReserved (codes "nulls")
@@ -108,6 +109,17 @@ first_name =
     free : (t : ℕ) → t < 1 → ¬ (IsReserved (schema_table both_names t).name)
     free zero lt = not_reserved (codes "a") (λ e. absurd (omega (arith, e))) (λ e. absurd (omega (arith, e)))
     free (suc t) lt = absurd (omega (arith, lt))
+
+-- and not the second
+second_name : ¬ IsFirstReserved both_names (codes "nulls")
+second_name r = never r.table r.is r.first
+  where
+    never :
+        (t : ℕ) → codes "nulls" ≡ (schema_table both_names t).name
+        → ((u : ℕ) → u < t → ¬ (IsReserved (schema_table both_names u).name)) → ⊥
+    never zero e first = let h : 110 ≡ 97 = ap (λ (s : List ℕ). get_or s 0 0) e in omega (arith, h)
+    never (suc zero) e first = let h : 110 ≡ 102 = ap (λ (s : List ℕ). get_or s 0 0) e in omega (arith, h)
+    never (suc (suc t)) e first = first 1 (omega arith) (inr refl)
 
 -- ---- numbers that are too large
 

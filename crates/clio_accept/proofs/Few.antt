@@ -4,10 +4,10 @@ use Rattle.std.specs.Prelude.{flat_map, nat_lt}
 use Rattle.std.specs.List.{list_any}
 use Rattle.std.proofs.lemmas.Bool.{ltb-false}
 use Rattle.std.proofs.lemmas.List.{length-append}
-use Rattle.dx_ports.specs.declared.file.Limit.{Limit}
-use Rattle.dx_ports.specs.Members.{here, there, Each}
-use Rattle.dx_ports.proofs.Members.{in_left, in_right, in_map, from_map, in_at}
-use Rattle.dx_ports.proofs.Tests.{none_of}
+use Rattle.dx_base.specs.declared.file.Limit.{Limit}
+use Rattle.dx_base.specs.Members.{here, there, Each}
+use Rattle.dx_base.proofs.Members.{in_left, in_right, in_map, from_map, in_at}
+use Rattle.dx_base.proofs.Tests.{none_of}
 use Rattle.dx_model.specs.Tables.{Table, table_of}
 use Rattle.dx_schema.specs.Bounds.{HasFewRules}
 use Rattle.dx_schema.specs.Forest.{Forest}

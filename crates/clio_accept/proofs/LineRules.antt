@@ -1,7 +1,7 @@
 -- From the answers of the steps of lines and hand-written rules to that of their rules.
 use Rattle.std.proofs.Common.{◌≡◌, ◌⊎◌, ◌+◌, ◌<◌, ◌≤◌, List, ◌++◌, length, Some, None, refl, inl, inr, ap, ◌∙◌, subst, Ok, Err}
-use Rattle.dx_ports.specs.declared.file.Limit.{Limit}
-use Rattle.dx_ports.specs.declared.file.Count.TheVariants as counts
+use Rattle.dx_base.specs.declared.file.Limit.{Limit}
+use Rattle.dx_base.specs.declared.file.Count.TheVariants as counts
 use Rattle.dx_model.specs.declared.rules.Rule.{Rule}
 use Rattle.dx_schema.specs.Tables.{model_tables}
 use Rattle.dx_tokens.specs.declared.faults.TextFault.{TextFault}

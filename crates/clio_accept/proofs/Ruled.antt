@@ -3,10 +3,10 @@ use Rattle.std.proofs.Common.{◌≡◌, ℕ, ◌*◌, ◌≤◌, Bool, true, fa
 use Rattle.std.specs.Prelude.{eqb, map, slice_index_or, zero, suc}
 use Rattle.std.proofs.lemmas.Bool.{eqb-true}
 use Rattle.std.proofs.lemmas.List.{length-append, length-map}
-use Rattle.dx_ports.specs.Members.{◌∈◌, here, there, Each}
-use Rattle.dx_ports.proofs.Members.{from_append, from_map}
-use Rattle.dx_ports.proofs.Firsts.{each_none, first_none, none_of}
-use Rattle.dx_ports.proofs.Tests.{from_filter}
+use Rattle.dx_base.specs.Members.{◌∈◌, here, there, Each}
+use Rattle.dx_base.proofs.Members.{from_append, from_map}
+use Rattle.dx_base.proofs.Firsts.{each_none, first_none, none_of}
+use Rattle.dx_base.proofs.Tests.{from_filter}
 use Rattle.dx_model.specs.declared.rules.Rule.{Rule}
 use Rattle.dx_model.specs.Fitting.{IsRule, RuleFits}
 use Rattle.dx_model.specs.Following.{are_none, underived}

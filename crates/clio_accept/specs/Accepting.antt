@@ -1,8 +1,8 @@
 -- Accepting a text, one stage after the other.
 use Rattle.std.specs.Prelude.{◌≡◌, ◌≤◌, ◌+◌, ℕ, List, None, length}
-use Rattle.dx_ports.specs.declared.limits.TheConstants.{LINES, RULES}
+use Rattle.dx_base.specs.declared.limits.TheConstants.{LINES, RULES}
 use Rattle.dx_model.specs.declared.rules.Rule.{Rule}
-use Rattle.dx_ports.specs.Members.{Each}
+use Rattle.dx_base.specs.Members.{Each}
 use Rattle.dx_stages.specs.Stages.{Stage, next, over, into, saying, checking, notions}
 use Rattle.dx_schema.specs.Forest.{Forest}
 use Rattle.dx_schema.specs.Tables.{model_tables}

@@ -1,7 +1,7 @@
 -- What holds of accepted mappings.
 use Rattle.std.specs.Prelude.{◌≡◌, ◌≤◌, ◌<◌, ◌-◌, ◌^◌, ℕ, List, length}
-use Rattle.dx_ports.specs.declared.limits.TheConstants.{RULES}
-use Rattle.dx_ports.specs.Members.{Each}
+use Rattle.dx_base.specs.declared.limits.TheConstants.{RULES}
+use Rattle.dx_base.specs.Members.{Each}
 use Rattle.dx_model.specs.Solutions.{IsClosed}
 use Rattle.dx_model.specs.Fitting.{RuleFits}
 use Rattle.dx_stages.specs.Worlds.{World}

@@ -1,9 +1,9 @@
 -- What a text is refused for, and the mapping of what it says.
 use Rattle.std.specs.Prelude.{◌≡◌, ◌⊎◌, ℕ, ◌+◌, ◌<◌, ◌≤◌, List, [], ◌∷◌, ◌++◌, Option, Some, length, codes}
-use Rattle.dx_ports.specs.declared.file.Count.TheVariants.{Depth, FrozenCells, Lines, Occurrences, Rules}
-use Rattle.dx_ports.specs.declared.file.Limit.{Limit}
-use Rattle.dx_ports.specs.declared.limits.TheConstants.{DEPTH, FROZEN_CELLS, LINES, OCCURRENCES, RULES}
-use Rattle.dx_ports.specs.Members.{◌∈◌}
+use Rattle.dx_base.specs.declared.file.Count.TheVariants.{Depth, FrozenCells, Lines, Occurrences, Rules}
+use Rattle.dx_base.specs.declared.file.Limit.{Limit}
+use Rattle.dx_base.specs.declared.limits.TheConstants.{DEPTH, FROZEN_CELLS, LINES, OCCURRENCES, RULES}
+use Rattle.dx_base.specs.Members.{◌∈◌}
 use Rattle.dx_model.specs.declared.rules.Atom.{Atom}
 use Rattle.dx_model.specs.declared.rules.Rule.{Rule}
 use Rattle.dx_model.specs.Tables.{Table}

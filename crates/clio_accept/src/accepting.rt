@@ -12,8 +12,8 @@ ghost use Rattle.clio_accept.specs.declared.fault.AcceptFault.TheVariants.{Memor
 use crate::fault::{AcceptFault, MapFault};
 use crate::lines::{SchemaTexts, mapping_between};
 use crate::mapping::Mapping;
+use dx_base::{Items, Text};
 use dx_funcs::{Host, Meaning, Tests};
-use dx_ports::{Items, Text};
 use dx_schema::{Schema, SchemaFault, Trees};
 use dx_schema_text::{MappingText, read_mapping};
 use std::alloc::{AllocError, Global};

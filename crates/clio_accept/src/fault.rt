@@ -3,9 +3,9 @@ ghost use Rattle.std.specs.Prelude.{◌≡◌};
 ghost use Rattle.clio_accept.specs.Mapping.{frozen_refusal, limit_refusal, text_refusal};
 ghost use Rattle.clio_accept.specs.declared.fault.AcceptFault.TheVariants.{Memory};
 
+use dx_base::limits::DEPTH;
+use dx_base::{Count, Limit, Text};
 use dx_candidates::CandFault;
-use dx_ports::limits::DEPTH;
-use dx_ports::{Count, Limit, Text};
 use dx_schema::SchemaKind;
 use dx_schema_text::{TextFault, TextKind};
 use dx_tgd::CanonFault;

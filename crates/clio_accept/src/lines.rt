@@ -1,6 +1,6 @@
 // The conditions of a mapping, the rules of its lines, and its hand-written rules, without those that follow from the others.
 ghost use Rattle.std.specs.Prelude.{◌≡◌, ◌⊎◌, ◌+◌, ◌++◌, ◌≤◌, List, length, IfErr, OnOk, MatchResult};
-ghost use Rattle.dx_ports.specs.Members.{Each};
+ghost use Rattle.dx_base.specs.Members.{Each};
 ghost use Rattle.dx_model.specs.declared.rules.Rule.{Rule as RuleOf};
 ghost use Rattle.dx_model.specs.Fitting.{AreNumbered, RuleFits};
 ghost use Rattle.dx_model.specs.Solutions.{AtomFits};
@@ -14,14 +14,14 @@ ghost use Rattle.clio_accept.specs.declared.fault.AcceptFault.TheVariants.{Memor
 
 use crate::fault::AcceptFault;
 use crate::mapping::Mapping;
+use dx_base::limits::{FROZEN_CELLS, LINES, OCCURRENCES, RULES};
+use dx_base::{Count, Items, Limit, Text};
 use dx_candidates::kept;
 use dx_closing::{CloseFault, close};
 use dx_funcs::{Host, Meaning, Tests};
 use dx_implies::prune;
 use dx_line_text::{read_conditions, read_lines};
 use dx_model::Rule;
-use dx_ports::limits::{FROZEN_CELLS, LINES, OCCURRENCES, RULES};
-use dx_ports::{Count, Items, Limit, Text};
 use dx_schema::Schema;
 use dx_schema_text::{LineText, OnlyText, RuleText};
 use dx_tgd_text::read_rules;

@@ -1,7 +1,7 @@
 // Mappings.
+use dx_base::Items;
 use dx_lines::Condition;
 use dx_model::Rule;
-use dx_ports::Items;
 use dx_schema::Schema;
 
 /// What a mapping text defines: the schemas of its two sides, the conditions on the rows of the source, and the rules between

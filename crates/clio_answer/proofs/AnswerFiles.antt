@@ -1,6 +1,6 @@
 -- From what the calls of `answer_files` give to what its stages gave: a lemma for each way out, so that a proof cites one with variables alone.
 use Rattle.std.proofs.Common.{ℕ, List, Result, Ok, Err}
-use Rattle.dx_ports.specs.Members.{Each}
+use Rattle.dx_base.specs.Members.{Each}
 use Rattle.dx_ports.specs.States.{InputState}
 use Rattle.dx_instance.specs.Stored.{TableRows}
 use Rattle.dx_used.specs.Used.{Marks, UsesOnly}

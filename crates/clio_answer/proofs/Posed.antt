@@ -1,6 +1,6 @@
 -- The answers of a query: one reason to refuse them, or a list of them, and never both.
 use Rattle.std.proofs.Common.{◌≡◌, ◌⊎◌, ℕ, List, refl, sym, ◌∙◌, ap, subst, inl, inr, arith}
-use Rattle.dx_ports.specs.declared.file.Count.TheVariants.{AnswerCells}
+use Rattle.dx_base.specs.declared.file.Count.TheVariants.{AnswerCells}
 use Rattle.dx_model.specs.declared.facts.Fact.{Fact}
 use Rattle.dx_model.specs.declared.rules.Rule.{Rule}
 use Rattle.dx_model.specs.Tables.{Table}

@@ -1,8 +1,8 @@
 -- The stages of `answer`: the mapping, the query, the rows, their exchange in plain mode, its certain answers.
 use Rattle.std.specs.Prelude.{◌≡◌, ◌<◌, ◌≤◌, ◌*◌, ℕ, List, codes, length}
-use Rattle.dx_ports.specs.Members.{◌∈◌}
-use Rattle.dx_ports.specs.declared.file.Count.TheVariants.{AnswerCells, QueryAtoms, QueryBytes}
-use Rattle.dx_ports.specs.declared.limits.TheConstants.{ANSWER_CELLS, QUERY_ATOMS, QUERY_BYTES}
+use Rattle.dx_base.specs.Members.{◌∈◌}
+use Rattle.dx_base.specs.declared.file.Count.TheVariants.{AnswerCells, QueryAtoms, QueryBytes}
+use Rattle.dx_base.specs.declared.limits.TheConstants.{ANSWER_CELLS, QUERY_ATOMS, QUERY_BYTES}
 use Rattle.dx_stages.specs.Ending.{PlanContent}
 use Rattle.dx_stages.specs.Stages.{Stage, next, by, over, into, file, saying, saying_if, checking, notions}
 use Rattle.dx_schema.specs.Forest.{Forest}

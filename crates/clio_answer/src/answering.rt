@@ -1,6 +1,6 @@
 // A query, answered on the target of an exchange in plain mode.
 ghost use Rattle.std.specs.Prelude.{◌≡◌, ◌↔◌, ◌≤◌, IfOk, IsTrue, length};
-ghost use Rattle.dx_ports.specs.Members.{Each};
+ghost use Rattle.dx_base.specs.Members.{Each};
 ghost use Rattle.dx_stages.specs.Ending.{planned, planned_of};
 ghost use Rattle.dx_stages.specs.Running.{Gives, Ran};
 ghost use Rattle.dx_funcs.specs.Judging.{Decides, tested};
@@ -15,11 +15,12 @@ use clio_accept::Mapping;
 use clio_ending::{Answers, Done, QueryFault, Refusal};
 use clio_files::{answers_file, into_files, summary};
 use clio_steps::{Side, exchange_rows, read_mapping, read_used_rows};
+use dx_base::limits::{ANSWER_CELLS, QUERY_ATOMS, QUERY_BYTES};
+use dx_base::{Count, Items, Limit, Text};
 use dx_certain::{CertainFault, certain};
 use dx_exchange::{Exchange, Mode};
 use dx_funcs::{Host, Meaning, Tests};
-use dx_ports::limits::{ANSWER_CELLS, QUERY_ATOMS, QUERY_BYTES};
-use dx_ports::{Count, Inputs, Items, Limit, Text};
+use dx_ports::Inputs;
 use dx_queries::{Part, Query};
 use dx_query_text::read_query;
 use dx_schema::Schema;

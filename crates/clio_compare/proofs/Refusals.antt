@@ -1,6 +1,6 @@
 -- A comparison is never refused with a clash.
 use Rattle.std.proofs.Common.{◌≡◌, ◌⊎◌, ap, inl, inr, false}
-use Rattle.dx_ports.specs.declared.file.Limit.{Limit}
+use Rattle.dx_base.specs.declared.file.Limit.{Limit}
 use Rattle.dx_stages.specs.Worlds.{World}
 use Rattle.clio_ending.specs.declared.faults.OtherFault.{OtherFault}
 use Rattle.clio_ending.specs.declared.ending.Refusal.{Refusal}

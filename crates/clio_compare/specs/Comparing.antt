@@ -1,10 +1,10 @@
 -- The stages of `compare`: the two mappings, what they have to have in common, the comparison.
 use Rattle.std.specs.Prelude.{◌≡◌, ◌⊎◌, ◌≤◌, ℕ, List, [], Some, take, length, slice_get, true, false}
-use Rattle.dx_ports.specs.Entries.{Entry}
-use Rattle.dx_ports.specs.Members.{Each}
-use Rattle.dx_ports.specs.declared.file.Count.TheVariants.{FrozenCells}
-use Rattle.dx_ports.specs.declared.limits.TheConstants.{RULES}
-use Rattle.dx_ports.specs.Texts.{Text}
+use Rattle.dx_base.specs.Entries.{Entry}
+use Rattle.dx_base.specs.Members.{Each}
+use Rattle.dx_base.specs.declared.file.Count.TheVariants.{FrozenCells}
+use Rattle.dx_base.specs.declared.limits.TheConstants.{RULES}
+use Rattle.dx_base.specs.Texts.{Text}
 use Rattle.dx_model.specs.declared.rules.Rule.{Rule}
 use Rattle.dx_stages.specs.Ending.{PlanContent}
 use Rattle.dx_stages.specs.Stages.{Stage, next, become, over, into, checking, notions}

@@ -1,7 +1,7 @@
 // Two mappings, compared.
 ghost use Rattle.std.specs.Prelude.{◌↔◌, ◌≤◌, IfNone, IfOk, IfSome, IsTrue, length};
-ghost use Rattle.dx_ports.specs.declared.limits.TheConstants.{RULES};
-ghost use Rattle.dx_ports.specs.Entries.{entries_of};
+ghost use Rattle.dx_base.specs.declared.limits.TheConstants.{RULES};
+ghost use Rattle.dx_base.specs.Entries.{entries_of};
 ghost use Rattle.dx_stages.specs.Ending.{planned};
 ghost use Rattle.dx_stages.specs.Running.{Gives, Ran};
 ghost use Rattle.dx_stages.specs.Worlds.{World};
@@ -17,11 +17,12 @@ use clio_accept::Mapping;
 use clio_ending::{Done, OtherFault, Refusal};
 use clio_files::{compared_text, into_files, print_comparison};
 use clio_steps::{Side, read_mapping};
+use dx_base::limits::FROZEN_CELLS;
+use dx_base::{File, Items, Text};
 use dx_compare::{Comparison, compare, same_trees};
 use dx_funcs::{Host, Meaning, Tests};
 use dx_model::Rule;
-use dx_ports::limits::FROZEN_CELLS;
-use dx_ports::{File, Inputs, Items, Text};
+use dx_ports::Inputs;
 use dx_stages::{Plan, Stop};
 use dx_tgd::CanonFault;
 use std::alloc::{AllocError, Global};

@@ -1,6 +1,6 @@
 -- Which refusals are alike.
 use Rattle.std.proofs.Common.{◌≡◌, List, refl, inl, inr}
-use Rattle.dx_ports.specs.Texts.{Text}
+use Rattle.dx_base.specs.Texts.{Text}
 use Rattle.dx_keys.specs.declared.answers.Clash.{Clash}
 use Rattle.clio_ending.specs.declared.ending.Refusal.{Refusal}
 use Rattle.clio_ending.specs.declared.ending.Refusal.TheVariants as refusals

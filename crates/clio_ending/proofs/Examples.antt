@@ -1,9 +1,9 @@
 -- Which refusals are alike; the names of a clash; and what is said of endings, with their statuses.
 use Rattle.std.proofs.Common.{◌≡◌, ℕ, List, [], ◌∷◌, Some, None, codes, get_or, map, refl, ap, arith, inl, inr, false, true}
 use Rattle.std.specs.Fmt.{digits}
-use Rattle.dx_ports.specs.declared.file.Count.{Count}
-use Rattle.dx_ports.specs.declared.file.Count.TheVariants as counts
-use Rattle.dx_ports.specs.declared.file.Limit.{Limit}
+use Rattle.dx_base.specs.declared.file.Count.{Count}
+use Rattle.dx_base.specs.declared.file.Count.TheVariants as counts
+use Rattle.dx_base.specs.declared.file.Limit.{Limit}
 use Rattle.dx_stages.specs.declared.plan.Ended.TheVariants as endeds
 use Rattle.dx_tokens.specs.declared.faults.TextFault.TheVariants as text_faults
 use Rattle.dx_tokens.specs.declared.faults.TextKind.TheVariants as text_kinds

@@ -1,6 +1,6 @@
 -- Refusals and endings of a run: their exit statuses, the names of a clash, and which refusals are alike.
 use Rattle.std.specs.Prelude.{◌≡◌, ◌⊎◌, ℕ, List, [], Option, Some, None, map, slice_index_or}
-use Rattle.dx_ports.specs.Texts.{Text}
+use Rattle.dx_base.specs.Texts.{Text}
 use Rattle.dx_stages.specs.declared.plan.Ended.{Ended}
 use Rattle.dx_stages.specs.declared.plan.Ended.TheVariants as endeds
 use Rattle.dx_schema.specs.Forest.{Forest}

@@ -1,9 +1,9 @@
 -- The text of an ending.
 use Rattle.std.specs.Prelude.{Bool, false, true, ℕ, List, [], ◌++◌, codes, slice_index_or}
 use Rattle.std.specs.Fmt.{decimal}
-use Rattle.dx_ports.specs.declared.file.Count.{Count}
-use Rattle.dx_ports.specs.declared.file.Count.TheVariants as counts
-use Rattle.dx_ports.specs.Texts.{Text}
+use Rattle.dx_base.specs.declared.file.Count.{Count}
+use Rattle.dx_base.specs.declared.file.Count.TheVariants as counts
+use Rattle.dx_base.specs.Texts.{Text}
 use Rattle.dx_model.specs.declared.values.Value.{Value}
 use Rattle.dx_model.specs.declared.values.Value.TheVariants.{Const, Null}
 use Rattle.dx_schema.specs.declared.fault.SchemaKind.{SchemaKind}

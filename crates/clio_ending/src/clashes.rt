@@ -6,9 +6,9 @@ ghost use Rattle.clio_ending.specs.Ending.{column_text, left_columns, named_clas
 ghost use Rattle.clio_ending.specs.Message.{clash_text, text_in};
 
 use crate::ending::Refusal;
+use dx_base::{Items, Text};
 use dx_instance::{Row, Value};
 use dx_keys::Clash;
-use dx_ports::{Items, Text};
 use dx_rule_text::push_string;
 use dx_schema::Schema;
 use std::alloc::{AllocError, Global};

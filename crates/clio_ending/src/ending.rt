@@ -6,11 +6,11 @@ ghost use Rattle.clio_ending.specs.Ending.{ending_of, refusal_ending, source_ref
 use crate::faults::{OtherFault, QueryFault};
 use clio_accept::MapFault;
 use clio_source::{RowsFault, SourceRefusal};
+use dx_base::{Items, Limit, Text};
 use dx_compare::Comparison;
 use dx_exchange::{Clash, Exchange};
 use dx_judge::Verdict;
 use dx_model::Tuples;
-use dx_ports::{Items, Limit, Text};
 use dx_stages::{Ended, Stop};
 
 /// The answers of a query.

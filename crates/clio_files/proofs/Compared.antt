@@ -2,8 +2,8 @@
 use Rattle.std.proofs.Common.{◌≡◌, ℕ, ◌≤◌, List, [], ◌∷◌, ◌++◌, append_assoc, codes, get_or, length, map, inl, inr, refl, sym, ◌∙◌, ap, subst, arith, Result, Ok, Err}
 use Rattle.std.specs.Prelude.{OnOk}
 use Rattle.std.proofs.lemmas.List.{append-nil, append_cancel_left, append_cancel_right, map-append}
-use Rattle.dx_ports.specs.Members.{◌∈◌, Distinct, Each}
-use Rattle.dx_ports.proofs.Members.{from_append, from_map, in_map}
+use Rattle.dx_base.specs.Members.{◌∈◌, Distinct, Each}
+use Rattle.dx_base.proofs.Members.{from_append, from_map, in_map}
 use Rattle.dx_instance.specs.Stored.{TableRows, facts}
 use Rattle.dx_instance.proofs.StoredFacts.{fact_from_row}
 use Rattle.dx_schema.specs.Forest.{Forest}

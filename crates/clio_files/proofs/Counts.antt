@@ -2,8 +2,8 @@
 use Rattle.std.proofs.Common.{◌≡◌, ℕ, ◌<◌, List, [], length, arith}
 use Rattle.std.specs.Cmp.{IsTotalOrder}
 use Rattle.std.proofs.lemmas.Cmp.{lists_total}
-use Rattle.dx_ports.specs.Members.{◌⊆◌, Distinct, Each}
-use Rattle.dx_ports.proofs.Members.{in_at, no_longer}
+use Rattle.dx_base.specs.Members.{◌⊆◌, Distinct, Each}
+use Rattle.dx_base.proofs.Members.{in_at, no_longer}
 use Rattle.dx_model.specs.declared.values.Value.{Value}
 use Rattle.dx_model.specs.Values.{RowsAscend, row_cmp}
 use Rattle.dx_model.proofs.Ascending.{ascending_distinct}

@@ -2,8 +2,8 @@
 use Rattle.std.proofs.Common.{◌≡◌, ◌⊎◌, ℕ, suc, ◌<◌, Bool, true, false, List, [], ◌∷◌, ◌++◌, length, map, get_or, reverse, codes, inl, inr, refl, sym, ◌∙◌, ap, subst, arith}
 use Rattle.std.specs.Prelude.{if◌then◌else◌}
 use Rattle.std.proofs.lemmas.List.{append_cancel_right, map-append, reverse-append}
-use Rattle.dx_ports.specs.Members.{◌∈◌, here, there, Distinct, Each}
-use Rattle.dx_ports.proofs.Members.{from_append, from_map, in_map}
+use Rattle.dx_base.specs.Members.{◌∈◌, here, there, Distinct, Each}
+use Rattle.dx_base.proofs.Members.{from_append, from_map, in_map}
 use Rattle.dx_instance.specs.NullMaps.{pairs_of}
 use Rattle.dx_instance.specs.Stored.{TableRows}
 use Rattle.dx_schema.specs.Forest.{Forest}

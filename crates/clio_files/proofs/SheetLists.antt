@@ -5,8 +5,8 @@ use Rattle.std.specs.Prelude.{IfOk}
 use Rattle.std.specs.declared.alloc.AllocError.{AllocError}
 use Rattle.std.proofs.lemmas.Grind.{flat_map-append}
 use Rattle.std.proofs.lemmas.List.{append-nil, length-map, map-append, take_more, take_all}
-use Rattle.dx_ports.specs.declared.file.File.{File}
-use Rattle.dx_ports.specs.Entries.{entry_of, entries_of}
+use Rattle.dx_base.specs.declared.file.File.{File}
+use Rattle.dx_base.specs.Entries.{entry_of, entries_of}
 use Rattle.dx_model.specs.declared.values.NullId.{NullId}
 use Rattle.dx_model.specs.declared.rules.Rule.{Rule}
 use Rattle.dx_model.specs.declared.facts.NullPair.{NullPair}
@@ -16,7 +16,7 @@ use Rattle.clio_files.specs.declared.records.Records.{Records}
 use Rattle.clio_files.specs.Printing.{AreRecords}
 use Rattle.dx_model.specs.Rules.{exported}
 use Rattle.dx_model.specs.Values.{Rows}
-use Rattle.dx_ports.specs.Texts.{Text}
+use Rattle.dx_base.specs.Texts.{Text}
 use Rattle.dx_instance.specs.Stored.{TableRows, rows_of}
 use Rattle.dx_schema.specs.Tables.{TableOf}
 use Rattle.dx_tgd.proofs.Lending.{get_map}

@@ -13,8 +13,8 @@ use Rattle.std.proofs.lemmas.List.{take_more, append-nil, map-append, length-map
 use Rattle.std.proofs.lemmas.List.Filters.{dedup_is}
 use Rattle.std.proofs.lemmas.List.Kept.{IsStrictlySortedBy-dedup, Contains-dedup, Contains-from_dedup}
 use Rattle.std.proofs.lemmas.List.Sorted.{Contains-permutation, IsPermutation-sym}
-use Rattle.dx_ports.specs.Members.{◌∈◌, here, there, Each}
-use Rattle.dx_ports.proofs.Members.{contains_from_in, in_from_contains}
+use Rattle.dx_base.specs.Members.{◌∈◌, here, there, Each}
+use Rattle.dx_base.proofs.Members.{contains_from_in, in_from_contains}
 use Rattle.dx_model.specs.declared.values.NullId.{NullId}
 use Rattle.dx_model.specs.declared.values.Value.{Value}
 use Rattle.dx_model.specs.declared.values.Value.TheVariants.{Const, Null}
@@ -24,7 +24,7 @@ use Rattle.dx_model.specs.contracts.values.NullIdOrd.TheImpl.Laws.{total-law, ma
 use Rattle.dx_model.specs.contracts.values.NullIdEq.TheImpl.Laws.{laws-law}
 use Rattle.dx_model.specs.contracts.values.NullIdPartialEq.TheImpl.{eq-value}
 use Rattle.dx_model.specs.Values.{null_cmp}
-use Rattle.dx_ports.specs.Texts.{Text}
+use Rattle.dx_base.specs.Texts.{Text}
 use Rattle.dx_model.specs.Instances.{values, nulls_in}
 use Rattle.dx_instance.specs.Cells.{NumberTable, numbers_at}
 use Rattle.dx_instance.specs.Numbers.{value_of}

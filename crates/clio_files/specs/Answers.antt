@@ -1,7 +1,7 @@
 -- The file of the answers of a query.
 use Rattle.std.specs.Prelude.{ℕ, zero, suc, List, [], ◌∷◌, ◌++◌, map, codes}
 use Rattle.std.specs.Fmt.{decimal}
-use Rattle.dx_ports.specs.Texts.{Text}
+use Rattle.dx_base.specs.Texts.{Text}
 use Rattle.dx_model.specs.Values.{Tuple}
 use Rattle.dx_instance.specs.ValueText.{const_text}
 use Rattle.clio_files.specs.Sheets.{Sheet, PrintedFile, file_of}

@@ -1,8 +1,8 @@
 -- The files of a comparison, and what is said of it.
 use Rattle.std.specs.Prelude.{◌≡◌, List, [], ◌++◌, codes}
 use Rattle.std.specs.Fmt.{decimal}
-use Rattle.dx_ports.specs.Members.{Each}
-use Rattle.dx_ports.specs.Texts.{Text}
+use Rattle.dx_base.specs.Members.{Each}
+use Rattle.dx_base.specs.Texts.{Text}
 use Rattle.dx_schema.specs.Forest.{Forest}
 use Rattle.dx_schema.specs.Tables.{TableOf, schema_widths, tables_of}
 use Rattle.dx_instance.specs.Stored.{TableRows, widths}

@@ -2,9 +2,9 @@
 use Rattle.std.specs.Prelude.{◌≡◌, Bool, if◌then◌else◌, ℕ, suc, List, [], ◌∷◌, ◌++◌, length, map, codes}
 use Rattle.std.specs.List.{flat_map}
 use Rattle.std.specs.Fmt.{decimal}
-use Rattle.dx_ports.specs.Entries.{Entry}
-use Rattle.dx_ports.specs.Members.{◌∈◌, Each}
-use Rattle.dx_ports.specs.Texts.{Text}
+use Rattle.dx_base.specs.Entries.{Entry}
+use Rattle.dx_base.specs.Members.{◌∈◌, Each}
+use Rattle.dx_base.specs.Texts.{Text}
 use Rattle.dx_model.specs.declared.values.NullId.{NullId}
 use Rattle.dx_model.specs.declared.values.Value.{Value}
 use Rattle.dx_model.specs.declared.values.Value.TheVariants.{Null}

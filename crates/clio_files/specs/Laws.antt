@@ -1,6 +1,6 @@
 -- What holds of the files.
 use Rattle.std.specs.Prelude.{◌≡◌, Bool, ℕ, List, ◌<◌, ◌≤◌, codes, length, map}
-use Rattle.dx_ports.specs.Members.{Distinct, Each}
+use Rattle.dx_base.specs.Members.{Distinct, Each}
 use Rattle.dx_model.specs.declared.rules.Rule.{Rule}
 use Rattle.dx_schema.specs.Forest.{Forest}
 use Rattle.dx_schema.specs.Tables.{AreTables, schema_table, tables_of}

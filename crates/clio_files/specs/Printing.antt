@@ -1,6 +1,6 @@
 -- Records that are printed one by one, and files that are added.
 use Rattle.std.specs.Prelude.{◌≡◌, ℕ, List, [], ◌++◌, length}
-use Rattle.dx_ports.specs.Texts.{Text}
+use Rattle.dx_base.specs.Texts.{Text}
 use Rattle.dx_schema.specs.Forest.{Forest}
 use Rattle.dx_schema.specs.Tables.{TableOf}
 use Rattle.dx_instance.specs.Stored.{TableRows}

@@ -1,7 +1,7 @@
 -- What is said of a verdict.
 use Rattle.std.specs.Prelude.{◌++◌, codes}
 use Rattle.std.specs.Fmt.{decimal}
-use Rattle.dx_ports.specs.Texts.{Text}
+use Rattle.dx_base.specs.Texts.{Text}
 use Rattle.dx_schema.specs.Forest.{Forest}
 use Rattle.dx_rule_text.specs.Printed.{table_name}
 use Rattle.dx_judge.specs.declared.verdict.Verdict.{Verdict}

@@ -9,8 +9,8 @@ ghost use Rattle.clio_files.specs.Sheets.{file_of};
 use crate::printed::Printed;
 use crate::records::Records;
 use crate::sheets::sheet_file;
+use dx_base::Text;
 use dx_model::Tuples;
-use dx_ports::Text;
 use std::alloc::{AllocError, Global};
 
 // The header: `c` and the number of each column.

@@ -1,7 +1,7 @@
 // The nulls of an instance whose symbols are in order, by a mark for each number of a null.
 ghost use Rattle.std.specs.Prelude.{◌≡◌, ◌↔◌, ℕ, List, ◌+◌, ◌<◌, ◌≤◌, ◌++◌, IfOk, length};
 ghost use Rattle.std.specs.List.{concat};
-ghost use Rattle.dx_ports.specs.Members.{◌∈◌};
+ghost use Rattle.dx_base.specs.Members.{◌∈◌};
 ghost use Rattle.dx_model.specs.Values.{NullsAscend};
 ghost use Rattle.dx_instance.specs.Numbers.{ValuesAscend, value_of, IsConstant};
 ghost use Rattle.dx_instance.specs.Shown.{AreBelow, numbers_of_table, shown_tables};

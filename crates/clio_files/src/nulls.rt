@@ -1,6 +1,6 @@
 // The nulls of an instance.
 ghost use Rattle.std.specs.Prelude.{◌≡◌, ◌↔◌, ◌<◌, ◌++◌, IfOk, OnOk, length, flat_map};
-ghost use Rattle.dx_ports.specs.Members.{◌∈◌};
+ghost use Rattle.dx_base.specs.Members.{◌∈◌};
 ghost use Rattle.dx_model.specs.Instances.{nulls_in};
 ghost use Rattle.dx_model.specs.Values.{NullsAscend};
 ghost use Rattle.dx_instance.specs.Shown.{AreBelow, shown_row, shown_tables};

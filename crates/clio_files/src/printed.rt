@@ -2,7 +2,7 @@
 ghost use Rattle.std.specs.Prelude.{◌≡◌, IfOk};
 ghost use Rattle.clio_files.specs.Files.{printed_view};
 
-use dx_ports::{File, Text};
+use dx_base::{File, Text};
 use std::alloc::{AllocError, Global};
 
 /// A file, and how many things stand in it, as its kind counts them: rules, steps of a script, the records under a header, or

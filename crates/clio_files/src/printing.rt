@@ -10,10 +10,10 @@ use crate::printed::Printed;
 use crate::sheets::{fold_file, nulls_file};
 use crate::tables::push_tables;
 use crate::texts::print_texts;
+use dx_base::{Items, Text};
 use dx_exchange::{Exchange, Mode};
 use dx_funcs::{Host, Meaning};
 use dx_model::Rule;
-use dx_ports::{Items, Text};
 use dx_schema::Schema;
 use std::alloc::{AllocError, Global};
 

@@ -5,9 +5,9 @@ ghost use Rattle.dx_instance.specs.ValueText.{const_text, value_text_of};
 ghost use Rattle.dx_csv.specs.Lines.{NeedsNoQuotes};
 ghost use Rattle.clio_files.specs.Printing.{AreRecords, HasFields};
 
+use dx_base::Text;
 use dx_csv::Lines;
 use dx_model::Value;
-use dx_ports::Text;
 use std::alloc::{AllocError, Global};
 
 /// Records printed into one buffer, field by field, and how many are whole.

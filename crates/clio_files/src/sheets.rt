@@ -1,6 +1,6 @@
 // Files of records: what nulls stand for, and what becomes of them.
 ghost use Rattle.std.specs.Prelude.{◌≡◌, ℕ, List, [], ◌∷◌, ◌++◌, IfOk, OnOk, codes, length, map};
-ghost use Rattle.dx_ports.specs.Members.{Each};
+ghost use Rattle.dx_base.specs.Members.{Each};
 ghost use Rattle.dx_model.specs.Rules.{exported as exported_of};
 ghost use Rattle.dx_rule_text.specs.Printed.{variable_text};
 ghost use Rattle.dx_instance.specs.NullMaps.{pairs_of};
@@ -12,10 +12,10 @@ ghost use Rattle.clio_files.specs.Sheets.{HasTexts, Sheet, file_of, fold_sheet, 
 
 use crate::printed::Printed;
 use crate::records::Records;
+use dx_base::{File, Items, Text};
 use dx_csv::show_null;
 use dx_instance::NullMap;
 use dx_model::{NullId, NullPair, Rule, Value};
-use dx_ports::{File, Items, Text};
 use dx_tgd::{RuleMatches, Tuple, exported};
 use std::alloc::{AllocError, Global};
 

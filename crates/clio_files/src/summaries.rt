@@ -1,11 +1,11 @@
 // The summary of files, their bytes, and the files alone.
 ghost use Rattle.std.specs.Prelude.{◌≡◌, ◌++◌, IfOk, codes, map, string_bytes};
 ghost use Rattle.std.specs.Fmt.{decimal};
-ghost use Rattle.dx_ports.specs.Entries.{entries_of};
+ghost use Rattle.dx_base.specs.Entries.{entries_of};
 ghost use Rattle.clio_files.specs.Files.{contents_of, files_of, printed_view, summary_of};
 
 use crate::printed::Printed;
-use dx_ports::File;
+use dx_base::File;
 use std::alloc::{AllocError, Global};
 
 // The line of the summary for a file.

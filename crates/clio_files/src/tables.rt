@@ -1,6 +1,6 @@
 // The tables of an instance as files.
 ghost use Rattle.std.specs.Prelude.{◌≡◌, ◌<◌, IfOk, OnOk, length, map};
-ghost use Rattle.dx_ports.specs.Members.{Each};
+ghost use Rattle.dx_base.specs.Members.{Each};
 ghost use Rattle.dx_schema.specs.Tables.{schema_widths, schema_table, tables_of};
 ghost use Rattle.dx_instance.specs.Stored.{rows_of, widths};
 ghost use Rattle.dx_csv.specs.Print.{HasNoMark};
@@ -9,9 +9,9 @@ ghost use Rattle.clio_files.specs.Printing.{AddsTables};
 
 use crate::printed::Printed;
 use clio_source::file_name;
+use dx_base::File;
 use dx_csv::print_table_bytes;
 use dx_instance::Instance;
-use dx_ports::File;
 use dx_schema::Schema;
 use std::alloc::{AllocError, Global};
 

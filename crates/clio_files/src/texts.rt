@@ -5,10 +5,10 @@ ghost use Rattle.clio_files.specs.Files.{printed_view};
 ghost use Rattle.clio_files.specs.Texts.{FitTexts, rules_told, script_of, script_told, texts_told};
 
 use crate::printed::Printed;
+use dx_base::{Items, Text};
 use dx_exchange::Mode;
 use dx_funcs::{Host, Meaning};
 use dx_model::Rule;
-use dx_ports::{Items, Text};
 use dx_rule_text::print_rules;
 use dx_schema::Schema;
 use dx_script::Script;

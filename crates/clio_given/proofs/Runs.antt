@@ -3,8 +3,8 @@ use Rattle.std.proofs.Common.{◌≡◌, ◌∙◌, ℕ, zero, suc, ◌+◌, ◌
 use Rattle.std.specs.Prelude.{codes}
 use Rattle.std.specs.List.{range_with_len}
 use Rattle.std.proofs.lemmas.List.{append_cancel_right}
-use Rattle.dx_ports.specs.Members.{◌∈◌}
-use Rattle.dx_ports.proofs.Ranges.{from_range, range_more}
+use Rattle.dx_base.specs.Members.{◌∈◌}
+use Rattle.dx_base.proofs.Ranges.{from_range, range_more}
 use Rattle.dx_ports.specs.States.{InputState}
 use Rattle.dx_instance.specs.Stored.{TableRows}
 use Rattle.dx_schema.specs.Forest.{Forest}

@@ -1,9 +1,9 @@
 -- The given target of files: one file for each table of a schema, of as many bytes as are left.
 use Rattle.std.specs.Prelude.{◌≡◌, ◌⊎◌, ◌-◌, ℕ, suc, List, [], ◌++◌, Some, length, take, slice_get, nat_lt, codes, if◌then◌else◌, Result, Ok, Err}
 use Rattle.std.specs.List.{AllZip, range_with_len}
-use Rattle.dx_ports.specs.Members.{Each}
-use Rattle.dx_ports.specs.declared.file.Count.TheVariants.{GivenCells}
-use Rattle.dx_ports.specs.declared.limits.TheConstants.{GIVEN_CELLS}
+use Rattle.dx_base.specs.Members.{Each}
+use Rattle.dx_base.specs.declared.file.Count.TheVariants.{GivenCells}
+use Rattle.dx_base.specs.declared.limits.TheConstants.{GIVEN_CELLS}
 use Rattle.dx_model.specs.declared.facts.Fact.{Fact}
 use Rattle.dx_model.specs.declared.values.Value.{Value}
 use Rattle.dx_model.specs.declared.values.Value.TheVariants.{Const}

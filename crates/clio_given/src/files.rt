@@ -9,9 +9,10 @@ ghost use Rattle.clio_given.specs.Reading.{GivenReadFits, read_of, shown_result}
 use crate::names::given_name;
 use crate::reading::{Reading, at_start, load_given};
 use clio_source::{RowsFault, SourceRefusal};
+use dx_base::limits::{DATA_BYTES, TABLES};
+use dx_base::{Count, Limit};
 use dx_instance::Instance;
-use dx_ports::limits::{DATA_BYTES, TABLES};
-use dx_ports::{Count, Inputs, Limit};
+use dx_ports::Inputs;
 use dx_schema::Schema;
 use dx_stages::{Stop, fetch};
 use std::alloc::Global;

@@ -3,7 +3,7 @@ ghost use Rattle.std.specs.Prelude.{◌≡◌, IfOk};
 ghost use Rattle.clio_given.specs.Given.{given_name};
 
 use clio_source::file_name;
-use dx_ports::Text;
+use dx_base::Text;
 use std::alloc::{AllocError, Global};
 
 /// The name of a table's given file.

@@ -1,6 +1,6 @@
 // What was read so far of the given files, and one table more.
 ghost use Rattle.std.specs.Prelude.{◌≡◌, ◌+◌, ◌*◌, ◌-◌, ◌≤◌, ◌<◌, length, map, IfOk, IfErr, MatchOption};
-ghost use Rattle.dx_ports.specs.Members.{Each};
+ghost use Rattle.dx_base.specs.Members.{Each};
 ghost use Rattle.dx_stages.specs.Running.{Gives};
 ghost use Rattle.dx_schema.specs.Forest.{Forest};
 ghost use Rattle.dx_schema.specs.Tables.{schema_table, tables_of};
@@ -11,10 +11,10 @@ ghost use Rattle.clio_given.specs.Reading.{GivenIsNotRead, GivenReadFits, read_o
 
 use crate::values::{NoValues, rows_of};
 use clio_source::{RowsFault, SourceRefusal};
+use dx_base::limits::GIVEN_CELLS;
+use dx_base::{Count, Limit, Text};
 use dx_csv::{RowFault, load_table};
 use dx_instance::{Gathered, Rows};
-use dx_ports::limits::GIVEN_CELLS;
-use dx_ports::{Count, Limit, Text};
 use dx_schema::Schema;
 use dx_stages::Stop;
 use std::alloc::Global;

@@ -1,6 +1,6 @@
 -- Rows that agree on the columns that the rules use have one verdict on a given target, or none for one reason.
 use Rattle.std.proofs.Common.{List, Result, Ok, Err}
-use Rattle.dx_ports.specs.Members.{Each}
+use Rattle.dx_base.specs.Members.{Each}
 use Rattle.dx_model.specs.Values.{Conversions}
 use Rattle.dx_instance.specs.Stored.{TableRows, facts}
 use Rattle.dx_used.specs.Used.{AgreeOnUsed, Marks, UsesOnly}

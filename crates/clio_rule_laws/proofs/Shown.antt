@@ -1,8 +1,8 @@
 -- The rules of an accepted mapping are read again.
 use Rattle.std.proofs.Common.{◌≡◌, List, None, inl, inr, refl, sym, subst}
-use Rattle.dx_ports.specs.Members.{◌∈◌, Each}
-use Rattle.dx_ports.proofs.Members.{from_append, from_map}
-use Rattle.dx_ports.proofs.Firsts.{each_none}
+use Rattle.dx_base.specs.Members.{◌∈◌, Each}
+use Rattle.dx_base.proofs.Members.{from_append, from_map}
+use Rattle.dx_base.proofs.Firsts.{each_none}
 use Rattle.dx_model.specs.declared.rules.Rule.{Rule}
 use Rattle.dx_schema.specs.Tables.{AreTables, model_tables, tables_of}
 use Rattle.dx_schema.specs.Links.{IsFaultless}
@@ -14,7 +14,7 @@ use Rattle.dx_schema_text.proofs.SpelledWords.{said_is_writable}
 use Rattle.dx_funcs.specs.declared.conversion.Conversion.{Conversion}
 use Rattle.dx_funcs.specs.declared.row_test.RowTest.{RowTest}
 use Rattle.dx_funcs.specs.Offers.{IsOffer}
-use Rattle.dx_ports.specs.Texts.{Text}
+use Rattle.dx_base.specs.Texts.{Text}
 use Rattle.dx_tgd_text.specs.Reading.{rule_fault, rules_fault, rule_of_text}
 use Rattle.dx_rule_laws.specs.ReadBack.{IsWritable}
 use Rattle.dx_rule_laws.proofs.Lines.{printed_lines_are_read}

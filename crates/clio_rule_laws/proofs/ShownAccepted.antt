@@ -2,9 +2,9 @@
 use Rattle.std.proofs.Common.{◌≡◌, ℕ, ◌<◌, ◌≤◌, ◌-◌, ◌^◌, Bool, false, List, [], ◌∷◌, ◌++◌, Option, Some, None, length, map, flat_map, inl, inr, refl, sym, ◌∙◌, ap, subst, arith}
 use Rattle.std.specs.List.{filter, list_any}
 use Rattle.std.proofs.lemmas.List.{length-map}
-use Rattle.dx_ports.specs.declared.file.Limit.{Limit}
-use Rattle.dx_ports.specs.Members.{◌∈◌, here, there, Each}
-use Rattle.dx_ports.proofs.Members.{from_append}
+use Rattle.dx_base.specs.declared.file.Limit.{Limit}
+use Rattle.dx_base.specs.Members.{◌∈◌, here, there, Each}
+use Rattle.dx_base.proofs.Members.{from_append}
 use Rattle.dx_model.specs.declared.rules.Rule.{Rule}
 use Rattle.dx_model.specs.Fitting.{IsRule}
 use Rattle.dx_model.specs.Solutions.{IsClosed}
@@ -26,7 +26,7 @@ use Rattle.dx_lines.specs.Rules.{kept_rules, candidate_rule}
 use Rattle.dx_lines.specs.declared.line.Line.{Line}
 use Rattle.dx_lines.proofs.Sources.{from_kept}
 use Rattle.dx_line_text.specs.Naming.{lines_of}
-use Rattle.dx_ports.specs.Texts.{Text}
+use Rattle.dx_base.specs.Texts.{Text}
 use Rattle.dx_tgd_text.specs.Reading.{RuleHasFewCells, rules_of_texts as said_rules_of}
 use Rattle.dx_tgd_text.proofs.Written.{texts_have_whole_rules}
 use Rattle.dx_rule_laws.specs.ReadBack.{AreReadBehind}

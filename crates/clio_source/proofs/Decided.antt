@@ -5,9 +5,9 @@ use Rattle.std.specs.Cmp.{IsTotalOrder}
 use Rattle.std.proofs.lemmas.Bool.{eq-eqb, eqb-true}
 use Rattle.std.proofs.lemmas.Cmp.{lists_total}
 use Rattle.std.proofs.lemmas.List.{length-map}
-use Rattle.dx_ports.specs.Members.{◌∈◌, ◌⊆◌}
-use Rattle.dx_ports.proofs.Members.{from_map, in_map}
-use Rattle.dx_ports.proofs.Tests.{from_filter, to_filter}
+use Rattle.dx_base.specs.Members.{◌∈◌, ◌⊆◌}
+use Rattle.dx_base.proofs.Members.{from_map, in_map}
+use Rattle.dx_base.proofs.Tests.{from_filter, to_filter}
 use Rattle.dx_model.specs.declared.values.Value.{Value}
 use Rattle.dx_model.specs.declared.facts.Fact.{Fact}
 use Rattle.dx_model.specs.Values.{RowsAscend, row_cmp}

@@ -1,7 +1,7 @@
 -- Departments with their employees, and cities: the files of their roots, their bytes, and the cells of their facts.
 use Rattle.std.proofs.Common.{◌≡◌, ℕ, List, [], ◌∷◌, true, false, codes, refl, sym, subst, ap, arith, inr, Some}
 use Rattle.std.specs.Prelude.{Ok, Err}
-use Rattle.dx_ports.specs.Members.{here, there}
+use Rattle.dx_base.specs.Members.{here, there}
 use Rattle.dx_model.specs.declared.values.Value.TheVariants.{Const}
 use Rattle.dx_model.specs.declared.facts.Fact.{Fact}
 use Rattle.dx_schema.specs.Forest.{Forest, none, set, bare_set}

@@ -49,4 +49,5 @@ module _ {E : Type 0} (f : SourceRefusal → E) (passes : Passes) (w : SourceReq
       asked = x.finds.asked;
       meets = λ c g. meets r c (x.finds.meets c g);
     };
+    answered = x.answered;
   }

@@ -9,9 +9,9 @@ use Rattle.std.proofs.lemmas.List.{append-nil, get_or-map, get_or_append_left, g
 use Rattle.std.proofs.lemmas.List.Elements.{filter_more}
 use Rattle.std.proofs.lemmas.Grind.{same_number_lists}
 use Rattle.std.proofs.lemmas.Option.{slice_get_read}
-use Rattle.dx_ports.specs.Members.{◌∈◌, Each}
-use Rattle.dx_ports.proofs.Members.{contains_from_in, from_map, in_at, in_map, item_in, same_equal}
-use Rattle.dx_ports.proofs.Tests.{from_filter, to_filter}
+use Rattle.dx_base.specs.Members.{◌∈◌, Each}
+use Rattle.dx_base.proofs.Members.{contains_from_in, from_map, in_at, in_map, item_in, same_equal}
+use Rattle.dx_base.proofs.Tests.{from_filter, to_filter}
 use Rattle.dx_model.specs.declared.values.NullId.{NullId}
 use Rattle.dx_model.specs.declared.values.Value.{Value}
 use Rattle.dx_model.specs.declared.values.Value.TheVariants.{Const, Null}

@@ -3,8 +3,8 @@ use Rattle.std.proofs.Common.{◌≡◌, ℕ, zero, suc, ◌+◌, ◌-◌, ◌<�
 use Rattle.std.specs.Prelude.{codes}
 use Rattle.std.proofs.lemmas.Bool.{cases_lt}
 use Rattle.std.proofs.lemmas.List.{append_cancel_right, get_or_append_left, get_or-append-add, get_or-map, reverse-append, take_more, take-append-drop, take_all, length-map}
-use Rattle.dx_ports.specs.Members.{◌∈◌, here, there, Distinct}
-use Rattle.dx_ports.proofs.Members.{in_at}
+use Rattle.dx_base.specs.Members.{◌∈◌, here, there, Distinct}
+use Rattle.dx_base.proofs.Members.{in_at}
 use Rattle.dx_schema.specs.Forest.{Forest, Tree, none, set, forest_of, has_sets}
 use Rattle.dx_schema.specs.Tables.{AreTables, NumberedSet, TableOf, count, nowhere, level_numbers, numbered_sets, sets_of, schema_table, table_in, tables_of, tree_at}
 use Rattle.dx_schema.proofs.Numbered.{found_here, tables_counted}

@@ -1,6 +1,6 @@
 -- Without marks all is read.
 use Rattle.std.proofs.Common.{◌≡◌, List, [], ◌∷◌, map, refl, ap}
-use Rattle.dx_ports.proofs.Members.{same_equal, same_sym, same_trans}
+use Rattle.dx_base.proofs.Members.{same_equal, same_sym, same_trans}
 use Rattle.dx_model.specs.declared.facts.Fact.{Fact}
 use Rattle.dx_instance.specs.Stored.{facts}
 use Rattle.dx_used.specs.Used.{fact_blanked}

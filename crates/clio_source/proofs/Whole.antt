@@ -1,8 +1,8 @@
 -- The whole source: the instance that was read agrees with that of the files.
 use Rattle.std.proofs.Common.{◌≡◌, ℕ, refl, sym, ◌∙◌, subst, Ok, Err, List, length}
 use Rattle.std.specs.List.{list_all}
-use Rattle.dx_ports.proofs.Members.{same_sym, same_trans}
-use Rattle.dx_ports.proofs.Tests.{from_filter}
+use Rattle.dx_base.proofs.Members.{same_sym, same_trans}
+use Rattle.dx_base.proofs.Tests.{from_filter}
 use Rattle.dx_ports.specs.States.{InputState}
 use Rattle.dx_model.specs.declared.facts.Fact.{Fact}
 use Rattle.dx_instance.specs.Shown.{shown_tables}

@@ -1,6 +1,6 @@
 -- What is read if only some columns count.
 use Rattle.std.specs.Prelude.{◌≡◌, ℕ, List, Result, Ok, Err}
-use Rattle.dx_ports.specs.Members.{◌∈◌, Each}
+use Rattle.dx_base.specs.Members.{◌∈◌, Each}
 use Rattle.dx_ports.specs.States.{InputState}
 use Rattle.dx_model.specs.declared.facts.Fact.{Fact}
 use Rattle.dx_stages.specs.declared.stop.Stop.{Stop}

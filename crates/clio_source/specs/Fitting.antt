@@ -1,6 +1,6 @@
 -- What the code has of what was read: rows of the tables, as numbers of symbols.
 use Rattle.std.specs.Prelude.{◌≡◌, ◌≤◌, ◌<◌, ℕ, ◌+◌, List, [], ◌++◌, map, length, take, Result, Ok, Err}
-use Rattle.dx_ports.specs.Members.{Each, ◌≈◌}
+use Rattle.dx_base.specs.Members.{Each, ◌≈◌}
 use Rattle.dx_ports.specs.States.{InputState}
 use Rattle.dx_model.specs.declared.values.Value.{Value}
 use Rattle.dx_model.specs.declared.facts.Fact.{Fact}

@@ -1,7 +1,7 @@
 -- Of an instance the rows that pass conditions.
 use Rattle.std.specs.Prelude.{◌≡◌, ℕ, Bool, List, filter, map}
 use Rattle.std.specs.List.{list_all}
-use Rattle.dx_ports.specs.Members.{◌∈◌, ◌≈◌, Each}
+use Rattle.dx_base.specs.Members.{◌∈◌, ◌≈◌, Each}
 use Rattle.dx_model.specs.declared.values.Value.{Value}
 use Rattle.dx_funcs.specs.declared.row_test.RowTest.{RowTest}
 use Rattle.dx_lines.specs.declared.line.Condition.{Condition}

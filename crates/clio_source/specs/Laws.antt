@@ -1,6 +1,6 @@
 -- What holds of the source of files.
 use Rattle.std.specs.Prelude.{◌≡◌, ◌<◌, ◌↔◌, ℕ, List, [], None, Ok, length}
-use Rattle.dx_ports.specs.Members.{◌∈◌, ◌≈◌}
+use Rattle.dx_base.specs.Members.{◌∈◌, ◌≈◌}
 use Rattle.dx_ports.specs.States.{InputState}
 use Rattle.dx_stages.specs.Laws.{IsDecided, PassesOne}
 use Rattle.dx_stages.specs.Running.{Ran}

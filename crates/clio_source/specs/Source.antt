@@ -1,8 +1,8 @@
 -- The source of files, one stage after the other.
 use Rattle.std.specs.Prelude.{◌≡◌, ◌-◌, ◌<◌, ℕ, List, [], ◌++◌, length, map, sum_by, nat_lt, codes, if◌then◌else◌, None, Result, Ok, Err}
-use Rattle.dx_ports.specs.Members.{◌≈◌}
-use Rattle.dx_ports.specs.declared.file.Count.TheVariants.{DataBytes, SourceCells}
-use Rattle.dx_ports.specs.declared.limits.TheConstants.{DATA_BYTES, SOURCE_CELLS}
+use Rattle.dx_base.specs.Members.{◌≈◌}
+use Rattle.dx_base.specs.declared.file.Count.TheVariants.{DataBytes, SourceCells}
+use Rattle.dx_base.specs.declared.limits.TheConstants.{DATA_BYTES, SOURCE_CELLS}
 use Rattle.dx_model.specs.declared.values.Value.{Value}
 use Rattle.dx_model.specs.declared.facts.Fact.{Fact}
 use Rattle.dx_model.specs.Values.{RowsAscend}

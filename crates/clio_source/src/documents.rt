@@ -1,6 +1,6 @@
 // A nested root: its file is a document.
 ghost use Rattle.std.specs.Prelude.{◌≡◌, ◌+◌, ◌-◌, ◌≤◌, ◌<◌, ◌^◌, length, map, slice_set, take, IfOk, IfErr, OnOk, MatchOption};
-ghost use Rattle.dx_ports.specs.Members.{Each};
+ghost use Rattle.dx_base.specs.Members.{Each};
 ghost use Rattle.dx_model.specs.Tables.{IsInstance};
 ghost use Rattle.dx_schema.specs.Tables.{count, model_tables, schema_widths, schema_table, tables_of, tree_at};
 ghost use Rattle.dx_instance.specs.Numbers.{Extends};
@@ -13,10 +13,10 @@ ghost use Rattle.clio_source.specs.Fitting.{AddsEmpty, AddsFacts, AddsRoot, CanA
 
 use crate::fault::{RowsFault, SourceRefusal};
 use crate::reading::{Reading, too_many_cells};
+use dx_base::Text;
+use dx_base::limits::TABLES;
 use dx_instance::{Fact, Gathered, Row, Rows, copy_value};
 use dx_json::{Facts, JsonFault, shred};
-use dx_ports::Text;
-use dx_ports::limits::TABLES;
 use dx_schema::Schema;
 use dx_stages::Stop;
 use json::Scratch;

@@ -1,7 +1,7 @@
 // Why a source is refused.
+use dx_base::{Limit, Text};
 use dx_csv::RowKind;
 use dx_json::JsonKind;
-use dx_ports::{Limit, Text};
 
 /// What is wrong with a source file.
 #[derive(Drop)]

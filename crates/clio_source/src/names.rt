@@ -2,7 +2,7 @@
 ghost use Rattle.std.specs.Prelude.{◌≡◌, ◌++◌, IfOk};
 ghost use Rattle.clio_source.specs.Source.{csv_name, json_name};
 
-use dx_ports::Text;
+use dx_base::Text;
 use std::alloc::{AllocError, Global};
 
 /// The name of a table's file, with this in front of it.

@@ -5,10 +5,10 @@ ghost use Rattle.dx_instance.specs.Shown.{AreBelow, numbers_of_table, shown_row}
 ghost use Rattle.dx_used.specs.Passing.{fact_passes, value_passes};
 ghost use Rattle.clio_source.specs.Kept.{AreTested, IsPassing, IsListedTest, row_passes, rows_kept};
 
+use dx_base::Text;
 use dx_funcs::{Meaning, Tests};
 use dx_instance::{Instance, Numbers, Rows, Value};
 use dx_lines::Condition;
-use dx_ports::Text;
 use std::alloc::{AllocError, Global};
 
 // Whether what stands in the column of a condition passes its test.

@@ -6,9 +6,9 @@ ghost use Rattle.clio_source.specs.Source.{at_start, too_many_bytes, too_many_ce
 ghost use Rattle.clio_source.specs.Fitting.{Holds, UnusedAreBlank, ReadFits};
 
 use crate::fault::SourceRefusal;
+use dx_base::limits::{DATA_BYTES, SOURCE_CELLS};
+use dx_base::{Count, Limit};
 use dx_instance::{Gathered, Rows};
-use dx_ports::limits::{DATA_BYTES, SOURCE_CELLS};
-use dx_ports::{Count, Limit};
 use dx_stages::Stop;
 use std::alloc::Global;
 

@@ -1,6 +1,6 @@
 // A flat root: its file is a table.
 ghost use Rattle.std.specs.Prelude.{◌≡◌, ◌+◌, ◌*◌, ◌-◌, ◌≤◌, ◌<◌, length, IfOk, IfErr, MatchOption};
-ghost use Rattle.dx_ports.specs.Members.{Each};
+ghost use Rattle.dx_base.specs.Members.{Each};
 ghost use Rattle.dx_schema.specs.Tables.{schema_table, tables_of};
 ghost use Rattle.dx_instance.specs.Numbers.{Extends};
 ghost use Rattle.dx_instance.specs.Shown.{AreBelow};
@@ -12,9 +12,9 @@ ghost use Rattle.clio_source.specs.Fitting.{GivesTo, Holds, UnusedAreBlank, NotR
 
 use crate::fault::{RowsFault, SourceRefusal};
 use crate::reading::{Reading, too_many_cells};
+use dx_base::{Items, Text};
 use dx_csv::{RowFault, load_into};
 use dx_instance::{Gathered, Rows};
-use dx_ports::{Items, Text};
 use dx_schema::Schema;
 use dx_stages::Stop;
 use std::alloc::Global;

@@ -5,7 +5,7 @@ ghost use Rattle.clio_ending.specs.Message.{message_of};
 
 use crate::letting_go::let_go;
 use clio_ending::{Ending, message};
-use dx_ports::Text;
+use dx_base::Text;
 use std::alloc::{AllocError, Global};
 
 /// The exit status of an ending, and its message if there is memory for it. The ending is let go.

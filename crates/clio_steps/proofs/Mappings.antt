@@ -1,6 +1,6 @@
 -- A mapping text, fetched and accepted.
 use Rattle.std.proofs.Common.{◌≡◌, ◌<◌, ◌≤◌, ◌-◌, ◌^◌, ℕ, List, length, refl, subst, sym, Some, Result, Ok, Err, arith}
-use Rattle.dx_ports.specs.declared.file.Limit.{Limit}
+use Rattle.dx_base.specs.declared.file.Limit.{Limit}
 use Rattle.dx_ports.specs.States.{InputState}
 use Rattle.dx_stages.specs.declared.stop.Stop.{Stop}
 use Rattle.dx_stages.specs.Stages.{file, saying_if}

@@ -3,8 +3,8 @@ use Rattle.std.proofs.Common.{◌≡◌, ℕ, zero, suc, ◌<◌, ◌≤◌, Lis
 use Rattle.std.specs.Prelude.{◌==◌, map}
 use Rattle.std.proofs.lemmas.Bool.{cases_Bool, eqb-true}
 use Rattle.csv.specs.Reading.{strip_bom}
-use Rattle.dx_ports.specs.Members.{Each, here, there}
-use Rattle.dx_ports.proofs.Members.{from_append, from_flat_map, from_map, in_at}
+use Rattle.dx_base.specs.Members.{Each, here, there}
+use Rattle.dx_base.proofs.Members.{from_append, from_flat_map, from_map, in_at}
 use Rattle.dx_ports.specs.States.{InputState}
 use Rattle.dx_model.specs.declared.facts.Fact.{Fact}
 use Rattle.dx_model.specs.declared.rules.Rule.{Rule}
@@ -190,6 +190,7 @@ ran_become_stop {E} {A} {B} {C} R s a e old new x = record {
     asked = λ c g n h. x.finds.asked c g n h;
     meets = λ c g. meets e c (x.finds.meets c g);
   };
+  answered = x.answered;
 }
   where
     meets : (e : Stop E) (c : World) → Meets s c a (Err e) → Meets (become R s) c a (Err e)

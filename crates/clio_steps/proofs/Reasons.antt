@@ -1,15 +1,15 @@
 -- Want of memory is no reason to refuse a text, so each refusal has its word; and the stages that commands share never refuse with `Usage`.
 use Rattle.std.proofs.Common.{◌≡◌, ℕ, List, [], ◌∷◌, ◌++◌, length, map, refl, ◌∙◌, ap, subst, inl, inr, Option, Some, None, Bool, true, false, cond}
 use Rattle.std.specs.Prelude.{◌||◌, eqb, nat_lt, not}
-use Rattle.dx_ports.specs.Firsts.{first_of}
+use Rattle.dx_base.specs.Firsts.{first_of}
 use Rattle.dx_funcs.specs.declared.conversion.Conversion.{Conversion}
 use Rattle.dx_funcs.specs.Names.{first_named}
 use Rattle.dx_schema.specs.declared.fault.SchemaFault.{SchemaFault}
 use Rattle.dx_schema.specs.declared.fault.SchemaFault.TheVariants as schema_faults
 use Rattle.dx_schema.specs.declared.fault.SchemaKind.{SchemaKind}
 use Rattle.dx_schema.specs.declared.fault.SchemaKind.TheVariants as schema_kinds
-use Rattle.dx_ports.specs.declared.file.Count.TheVariants.{Columns, Depth, Tables}
-use Rattle.dx_ports.specs.declared.file.Limit.{Limit}
+use Rattle.dx_base.specs.declared.file.Count.TheVariants.{Columns, Depth, Tables}
+use Rattle.dx_base.specs.declared.file.Limit.{Limit}
 use Rattle.dx_schema.specs.declared.sets.DepDecl.{DepDecl}
 use Rattle.dx_schema.specs.declared.sets.KeyDecl.{KeyDecl}
 use Rattle.dx_schema.specs.declared.sets.RefDecl.{RefDecl}

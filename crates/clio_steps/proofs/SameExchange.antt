@@ -1,6 +1,6 @@
 -- Rows that agree on the columns that the rules use have one exchange, or none for one reason.
 use Rattle.std.proofs.Common.{◌≡◌, ℕ, List, [], refl, sym, ◌∙◌, subst, Result, Ok, Err}
-use Rattle.dx_ports.specs.Members.{Each}
+use Rattle.dx_base.specs.Members.{Each}
 use Rattle.dx_ports.specs.States.{InputState}
 use Rattle.dx_model.specs.declared.rules.Rule.{Rule}
 use Rattle.dx_instance.specs.Stored.{TableRows, facts, widths}

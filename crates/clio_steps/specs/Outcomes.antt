@@ -1,7 +1,7 @@
 -- What there is in a world: an accepted mapping, its exchange, a solution or none, a clash; and how a plan was written.
 use Rattle.std.specs.Prelude.{◌≡◌, ◌++◌, ℕ, List, ◌∷◌, codes, length, Some, ◌≤◌}
-use Rattle.dx_ports.specs.Entries.{Entry}
-use Rattle.dx_ports.specs.Texts.{Text}
+use Rattle.dx_base.specs.Entries.{Entry}
+use Rattle.dx_base.specs.Texts.{Text}
 use Rattle.dx_ports.specs.States.{OutputState}
 use Rattle.dx_model.specs.Values.{Rows}
 use Rattle.dx_model.specs.declared.facts.Fact.{Fact}

@@ -1,7 +1,7 @@
 -- The stages that commands share: a mapping text, the rows of its source files, their exchange.
 use Rattle.std.specs.Prelude.{ℕ, List, Option, codes}
-use Rattle.dx_ports.specs.declared.file.Count.TheVariants.{TextBytes}
-use Rattle.dx_ports.specs.declared.limits.TheConstants.{TEXT_BYTES, TARGET_CELLS}
+use Rattle.dx_base.specs.declared.file.Count.TheVariants.{TextBytes}
+use Rattle.dx_base.specs.declared.limits.TheConstants.{TEXT_BYTES, TARGET_CELLS}
 use Rattle.dx_model.specs.Values.{Conversions}
 use Rattle.dx_stages.specs.Stages.{Stage, next, by, over, into, file, saying, saying_if}
 use Rattle.dx_schema.specs.Tables.{model_tables}

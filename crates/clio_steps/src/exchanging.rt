@@ -9,9 +9,10 @@ use crate::target::exchange_rows;
 use crate::texts::{Side, read_mapping};
 use clio_accept::Mapping;
 use clio_ending::Refusal;
+use dx_base::{Items, Text};
 use dx_exchange::{Exchange, Mode};
 use dx_funcs::{Host, Meaning, Tests};
-use dx_ports::{Inputs, Items, Text};
+use dx_ports::Inputs;
 use dx_stages::Stop;
 use std::alloc::{AllocError, Global};
 

@@ -1,5 +1,5 @@
 // The rows of the source files.
-ghost use Rattle.dx_ports.specs.Members.{Each};
+ghost use Rattle.dx_base.specs.Members.{Each};
 ghost use Rattle.dx_stages.specs.Stages.{saying};
 ghost use Rattle.dx_funcs.specs.Judging.{Decides, tested};
 ghost use Rattle.dx_used.specs.Named.{ReadNamed};
@@ -13,9 +13,10 @@ ghost use Rattle.clio_steps.specs.Steps.{wanted};
 use clio_accept::Mapping;
 use clio_ending::{Refusal, with_source_refusal};
 use clio_source::read_source;
+use dx_base::{Items, Text};
 use dx_funcs::{Meaning, Tests};
 use dx_instance::Instance;
-use dx_ports::{Inputs, Items, Text};
+use dx_ports::Inputs;
 use dx_stages::Stop;
 use dx_used::used_columns;
 use std::alloc::{AllocError, Global};

@@ -10,11 +10,11 @@ ghost use Rattle.clio_steps.specs.Steps.{named_stage};
 
 use clio_accept::Mapping;
 use clio_ending::{Refusal, named_clash};
+use dx_base::limits::TARGET_CELLS;
+use dx_base::{Items, Text};
 use dx_exchange::{ExFault, Exchange, Mode, Task, exchange};
 use dx_funcs::{Host, Meaning};
 use dx_instance::Instance;
-use dx_ports::limits::TARGET_CELLS;
-use dx_ports::{Items, Text};
 use dx_stages::Stop;
 use std::alloc::{AllocError, Global};
 

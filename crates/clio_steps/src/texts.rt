@@ -10,9 +10,10 @@ ghost use Rattle.clio_steps.specs.Steps.{absent_text, program, text_bytes, text_
 
 use clio_accept::{AcceptFault, MapFault, Mapping, accept};
 use clio_ending::{OtherFault, Refusal};
+use dx_base::limits::TEXT_BYTES;
+use dx_base::{Count, Items, Limit, Text};
 use dx_funcs::{Host, Meaning, Tests};
-use dx_ports::limits::TEXT_BYTES;
-use dx_ports::{Count, Inputs, Items, Limit, Text};
+use dx_ports::Inputs;
 use dx_stages::{Stop, fetch};
 use std::alloc::{AllocError, Global};
 

@@ -1,11 +1,9 @@
 -- What a run answers if nothing outside fails.
 use Rattle.std.proofs.Common.{◌≡◌, ◌⊎◌, ℕ, List, refl, sym, ◌∙◌, ap, subst, inl, inr, Option, Some, Ok, Bool}
-use Rattle.std.specs.FinMap.{get}
 use Rattle.std.proofs.lemmas.Option.{same_Some}
-use Rattle.dx_ports.specs.Entries.{FileMap}
 use Rattle.dx_ports.specs.Faults.{Rose}
 use Rattle.dx_keys.specs.declared.answers.Clash.{Clash}
-use Rattle.dx_ports.specs.Texts.{Text}
+use Rattle.dx_base.specs.Texts.{Text}
 use Rattle.dx_ports.specs.States.{InputState, OutputState}
 use Rattle.dx_instance.specs.Stored.{facts}
 use Rattle.dx_schema.specs.Tables.{model_tables, schema_widths}
@@ -20,7 +18,7 @@ use Rattle.dx_exchange.specs.declared.fault.ExFault.TheVariants as exchange_faul
 use Rattle.dx_stages.specs.declared.plan.Ended.{Ended}
 use Rattle.dx_stages.specs.declared.plan.Ended.TheVariants as endeds
 use Rattle.dx_stages.specs.Ending.{Counts, Ends, IsOutside, IsRefusedAs, PlanContent, Runs}
-use Rattle.dx_stages.specs.Worlds.{IsOf, World}
+use Rattle.dx_stages.specs.Worlds.{World}
 use Rattle.clio_accept.proofs.Accepted.{accepted_fits}
 use Rattle.clio_ending.specs.declared.ending.Done.{Done}
 use Rattle.clio_ending.specs.declared.ending.Done.TheVariants as dones
@@ -192,50 +190,34 @@ clash_answered r e k table key column is (inl (f, e_is, alike)) =
     inl (h.0, h.1, h.2, h.3, is ∙ ap ending_of (e_is ∙ ap (λ x. endeds.Refused x) h.4))
 clash_answered r e k table key column is (inr none) = inr (is ∙ ap ending_of none)
 
--- ---- over files that are told
-
-one_world : (m : FileMap) (holds : Option FileMap) (c : World) → holds ≡ Some m → IsOf holds c → c ≡ (λ n. get m n)
-one_world m holds c is of = let h = subst (λ o. IsOf o c) is of in λ i n. h n i
-
--- what is answered of a query in a world
-abbrev CompletesAnswers : Program → World → List (List ℕ) → Ending → Type 0
-CompletesAnswers P c words r =
-    says words ≡ Some Answering → (h : HasSolutionIn P c) (k : HasQueryIn h.mapping.target c) → HasFewAnswers P c h k
-    → OrMemory r ((a : Answers) × (r ≡ endings.Done (dones.Answered a)))
-
-abbrev ClashesAnswers : Program → World → List (List ℕ) → Ending → Type 0
-ClashesAnswers P c words r =
-    says words ≡ Some Answering → (h : HasNoSolutionIn P c) → HasQueryIn h.mapping.target c → OrMemory r (AnswersClash r)
+-- ---- in the world of a run
 
 pub completes : (P : Program) (words : List (List ℕ)) (r : Ending) (e : Ended Done Refusal) (old new : InputState) (before after : OutputState) (writes writes' : ℕ)
-    → r ≡ ending_of e → Runs AreAlike (run_stages P) words e old new before after writes writes' → (m : FileMap) → old.holds ≡ Some m
-    → ¬ (Rose old.faults new.faults) → ¬ (Rose writes writes') → Completes P (λ n. get m n) words r
-completes P words r e old new before after writes writes' is runs m holds reads written =
-    let same = sym (one_world m old.holds runs.world holds runs.held) in record {
-      done = λ k w h.
-          let p = faultless_planned P runs.world words (subst (λ (c : World). HasNoFault P c words) same h) in
-          answered P runs.world words r e k is w (plan_done P words e old new before after writes writes' runs (λ n a. reads) written p.0 p.1);
-      refused = λ f h.
-          refusal_answered r e f is
-          (reason_told P words e old new before after writes writes' runs (λ n a. reads) f (subst (λ (c : World). (run_stages P).refuses c words f) same h));
-      exchanged = λ mode nested w h.
-          let p = planned P runs.world words mode nested w (subst (HasSolutionIn P) same h) in
-          exchange_answered r mode nested (answered P runs.world words r e (Exchanging mode nested) is w
-          (plan_done P words e old new before after writes writes' runs (λ n a. reads) written p.1.0 p.1.1));
-      clash = λ mode nested w h.
-          let k = no_solution P runs.world words mode nested w (subst (HasNoSolutionIn P) same h) in
-          clash_answered r e k.0 k.1 k.2 k.3 is (reason_told P words e old new before after writes writes' runs (λ n a. reads) (refusals.Clash k.0 k.1 k.2 k.3) k.4);
-      shown = λ mode w h.
-          let p = shown P runs.world words mode w (subst (HasMappingIn P) same h) in
-          shown_answered r mode (answered P runs.world words r e (Showing mode) is w
-          (plan_done P words e old new before after writes writes' runs (λ n a. reads) written p.0 p.1));
-      answers = subst (λ (c : World). CompletesAnswers P c words r) (sym same) (λ w h k few.
-          let p = answers_planned P runs.world words w h k few in
-          answers_answered r (answered P runs.world words r e Answering is w (plan_done P words e old new before after writes writes' runs (λ n a. reads) written p.1.0 p.1.1)));
-      no_answer = subst (λ (c : World). ClashesAnswers P c words r) (sym same) (λ w h q.
-          let k = answers_clash P runs.world words w h q in
-          clash_answered r e k.0 k.1 k.2 k.3 is (reason_told P words e old new before after writes writes' runs (λ n a. reads) (refusals.Clash k.0 k.1 k.2 k.3) k.4));
-    }
+    → r ≡ ending_of e → (runs : Runs AreAlike (run_stages P) words e old new before after writes writes')
+    → ¬ (Rose old.faults new.faults) → ¬ (Rose writes writes') → Completes P runs.world words r
+completes P words r e old new before after writes writes' is runs reads written = record {
+  done = λ k w h.
+      let p = faultless_planned P runs.world words h in
+      answered P runs.world words r e k is w (plan_done P words e old new before after writes writes' runs (λ n a. reads) written p.0 p.1);
+  refused = λ f h. refusal_answered r e f is (reason_told P words e old new before after writes writes' runs (λ n a. reads) f h);
+  exchanged = λ mode nested w h.
+      let p = planned P runs.world words mode nested w h in
+      exchange_answered r mode nested (answered P runs.world words r e (Exchanging mode nested) is w
+      (plan_done P words e old new before after writes writes' runs (λ n a. reads) written p.1.0 p.1.1));
+  clash = λ mode nested w h.
+      let k = no_solution P runs.world words mode nested w h in
+      clash_answered r e k.0 k.1 k.2 k.3 is (reason_told P words e old new before after writes writes' runs (λ n a. reads) (refusals.Clash k.0 k.1 k.2 k.3) k.4);
+  shown = λ mode w h.
+      let p = shown P runs.world words mode w h in
+      shown_answered r mode (answered P runs.world words r e (Showing mode) is w
+      (plan_done P words e old new before after writes writes' runs (λ n a. reads) written p.0 p.1));
+  answers = λ w h k few.
+      let p = answers_planned P runs.world words w h k few in
+      answers_answered r (answered P runs.world words r e Answering is w (plan_done P words e old new before after writes writes' runs (λ n a. reads) written p.1.0 p.1.1));
+  no_answer = λ w h q.
+      let k = answers_clash P runs.world words w h q in
+      clash_answered r e k.0 k.1 k.2 k.3 is (reason_told P words e old new before after writes writes' runs (λ n a. reads) (refusals.Clash k.0 k.1 k.2 k.3) k.4);
+}
 
 -- ---- over the files of a demo
 

@@ -4,14 +4,14 @@ use Rattle.std.specs.Prelude.{codes}
 use Rattle.std.specs.Fmt.{decimal}
 use Rattle.std.specs.FinMap.{get}
 use Rattle.std.proofs.lemmas.List.{append-nil, append_assoc, take_all}
-use Rattle.dx_ports.specs.Entries.{FileMap}
-use Rattle.dx_ports.specs.States.{InputState}
+use Rattle.dx_base.specs.Entries.{FileMap}
+use Rattle.dx_ports.specs.States.{Found, InputState}
 use Rattle.dx_instance.specs.Stored.{TableRows, rows_of}
 use Rattle.dx_schema.specs.Forest.{Forest}
 use Rattle.dx_schema.specs.Tables.{TableOf, schema_table, tables_of, no_table}
 use Rattle.dx_stages.specs.declared.stop.Stop.{Stop}
 use Rattle.dx_stages.specs.declared.stop.Stop.TheVariants as stops
-use Rattle.dx_stages.specs.Worlds.{Agrees, Found, HoldsFound, World}
+use Rattle.dx_stages.specs.Worlds.{Agrees, HoldsFound, World}
 use Rattle.dx_stages.specs.Stages.{Stage}
 use Rattle.dx_stages.specs.Running.{FailedAt, Gives, Meets, Ran}
 use Rattle.dx_stages.specs.Ending.{PlanContent}

@@ -10,8 +10,8 @@ use Rattle.std.proofs.lemmas.Str.{IsUtf8-from_ascii}
 use Rattle.csv.specs.Machine.{next_record}
 use Rattle.csv.specs.Reading.{records_from, strip_bom}
 use Rattle.csv.specs.Records.{AllText}
-use Rattle.dx_ports.specs.Entries.{FileMap}
-use Rattle.dx_ports.specs.Members.{◌∈◌, Each, here, there}
+use Rattle.dx_base.specs.Entries.{FileMap}
+use Rattle.dx_base.specs.Members.{◌∈◌, Each, here, there}
 use Rattle.dx_model.specs.declared.facts.Fact.{Fact}
 use Rattle.dx_model.specs.declared.rules.Atom.{Atom}
 use Rattle.dx_model.specs.declared.rules.Cell.TheVariants.{Ex, Var}
@@ -23,7 +23,7 @@ use Rattle.dx_model.specs.Rules.{AreRows, IsMatch, IsRows, Satisfies, premise_fa
 use Rattle.dx_model.specs.Solutions.{IsSolution}
 use Rattle.dx_model.specs.Tables.{Determination, FactFits, RowsObey, table_of}
 use Rattle.dx_model.specs.Values.{Conversions, Rows, RowsAscend, Tuple, row_cmp, tuple_cmp}
-use Rattle.dx_ports.specs.Texts.{Text}
+use Rattle.dx_base.specs.Texts.{Text}
 use Rattle.dx_model.proofs.RowsExist.{one_rows}
 use Rattle.dx_instance.specs.Stored.{TableRows, facts, rows_of}
 use Rattle.dx_schema.specs.Forest.{Forest, Tree, none, set}

@@ -7,9 +7,9 @@ use Rattle.std.specs.FinMap.{from_entries, get-insert}
 use Rattle.std.specs.declared.cmp.Ordering.TheVariants.{Less}
 use Rattle.std.proofs.lemmas.List.{length-append}
 use Rattle.std.specs.Ordering.{ordering_reverse}
-use Rattle.dx_ports.specs.Entries.{FileMap}
-use Rattle.dx_ports.specs.Members.{◌∈◌, here, there}
-use Rattle.dx_ports.specs.Texts.{Text}
+use Rattle.dx_base.specs.Entries.{FileMap}
+use Rattle.dx_base.specs.Members.{◌∈◌, here, there}
+use Rattle.dx_base.specs.Texts.{Text}
 use Rattle.dx_model.specs.declared.facts.Fact.{Fact}
 use Rattle.dx_model.specs.declared.rules.Atom.{Atom}
 use Rattle.dx_model.specs.declared.rules.Cell.TheVariants.{Ex, Var}

@@ -1,7 +1,7 @@
 -- A rule alone, with one atom on the left and no derived variables: it is not tried on many cells, and it stays.
 use Rattle.std.proofs.Common.{◌≡◌, ◌<◌, List, [], ◌∷◌, ◌++◌, length, inr, refl, subst, ap, arith}
 use Rattle.std.proofs.lemmas.List.{length-append}
-use Rattle.dx_ports.specs.Members.{◌∈◌, here, there}
+use Rattle.dx_base.specs.Members.{◌∈◌, here, there}
 use Rattle.dx_model.specs.declared.facts.Fact.{Fact}
 use Rattle.dx_model.specs.declared.rules.Atom.{Atom}
 use Rattle.dx_model.specs.declared.rules.Rule.{Rule}

@@ -2,8 +2,8 @@
 use Rattle.std.proofs.Common.{◌≡◌, ℕ, List, [], ◌∷◌, ◌++◌, refl, sym, subst, inl, inr, Option, Some, None}
 use Rattle.std.specs.Prelude.{codes}
 use Rattle.csv.specs.Reading.{strip_bom}
-use Rattle.dx_ports.specs.Members.{Each, here, there}
-use Rattle.dx_ports.proofs.Members.{from_append, from_map}
+use Rattle.dx_base.specs.Members.{Each, here, there}
+use Rattle.dx_base.proofs.Members.{from_append, from_map}
 use Rattle.dx_instance.specs.Stored.{widths}
 use Rattle.dx_schema.specs.Forest.{Forest, none, set}
 use Rattle.dx_schema.specs.Tables.{NumberedSet, TableOf, columns_of, numbered_sets, schema_widths, sets_of, table_in, where_has_inner, where_inner}

@@ -7,9 +7,9 @@ use Rattle.std.proofs.lemmas.Option.{same_Some}
 use Rattle.csv.specs.Machine.{next_record}
 use Rattle.csv.specs.Reading.{records_from, strip_bom}
 use Rattle.csv.specs.Writing.{fields_text, is_blank}
-use Rattle.dx_ports.specs.Entries.{Entry}
-use Rattle.dx_ports.specs.Members.{◌∈◌, ◌⊆◌, ◌≈◌, Each, here, there}
-use Rattle.dx_ports.specs.Texts.{Text}
+use Rattle.dx_base.specs.Entries.{Entry}
+use Rattle.dx_base.specs.Members.{◌∈◌, ◌⊆◌, ◌≈◌, Each, here, there}
+use Rattle.dx_base.specs.Texts.{Text}
 use Rattle.dx_model.specs.declared.facts.Fact.{Fact}
 use Rattle.dx_model.specs.declared.facts.NullPair.{NullPair}
 use Rattle.dx_model.specs.declared.values.NullId.{NullId}

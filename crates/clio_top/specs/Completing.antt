@@ -1,8 +1,8 @@
 -- What a run answers if nothing outside fails: what is asked for, as far as there is such a thing, or want of memory.
 use Rattle.std.specs.Prelude.{◌≡◌, ◌⊎◌, ℕ, List, [], ◌∷◌, codes, Some, Bool}
 use Rattle.std.specs.FinMap.{from_entries, get}
-use Rattle.dx_ports.specs.Entries.{Entry, FileMap}
-use Rattle.dx_ports.specs.Texts.{Text}
+use Rattle.dx_base.specs.Entries.{Entry, FileMap}
+use Rattle.dx_base.specs.Texts.{Text}
 use Rattle.dx_stages.specs.Worlds.{World}
 use Rattle.dx_stages.specs.Ending.{PlanContent}
 use Rattle.dx_keys.specs.declared.answers.Clash.{Clash}
@@ -95,7 +95,7 @@ HasDone Comparing d = (k : Comparison) × (d ≡ Compared k)
 abbrev pub HasNoFault : Program → World → List Word → Type 0
 HasNoFault P c words = (e : Refusal) → ¬ ((run_stages P).refuses c words e)
 
--- Over files that are told, if no read and no write failed: if nothing is at fault, the command of the words is done; if there is a
+-- In a world in which what the reads answered is so, if no read and no write failed: if nothing is at fault, the command of the words is done; if there is a
 -- reason to refuse, it is the answer, or one that is alike; and what these come to for an exchange, for showing and for an answer.
 pub record Completes (P : Program) (c : World) (words : List Word) (r : Ending) : Type 0 where
   pub done : (k : Command) → says words ≡ Some k → HasNoFault P c words → OrMemory r ((d : Done) × HasDone k d × (r ≡ endings.Done d))

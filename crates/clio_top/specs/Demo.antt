@@ -2,7 +2,7 @@
 use Rattle.std.specs.Prelude.{◌≡◌, ◌≤◌, ◌++◌, ℕ, suc, List, [], ◌∷◌, length, codes}
 use Rattle.std.specs.Fmt.{decimal}
 use Rattle.std.specs.FinMap.{from_entries, get}
-use Rattle.dx_ports.specs.Entries.{FileMap}
+use Rattle.dx_base.specs.Entries.{FileMap}
 use Rattle.dx_model.specs.declared.values.NullId.{NullId}
 use Rattle.dx_stages.specs.Ending.{PlanContent}
 use Rattle.dx_stages.specs.Stages.{Stage, become}

@@ -1,8 +1,8 @@
 -- The files of an exchange under a mapping, made by a call of its own.
 use Rattle.std.specs.Prelude.{◌≡◌, ◌⊎◌, List, Bool, codes}
-use Rattle.dx_ports.specs.Entries.{Entry}
-use Rattle.dx_ports.specs.Members.{◌∈◌, Each}
-use Rattle.dx_ports.specs.Texts.{Text}
+use Rattle.dx_base.specs.Entries.{Entry}
+use Rattle.dx_base.specs.Members.{◌∈◌, Each}
+use Rattle.dx_base.specs.Texts.{Text}
 use Rattle.dx_model.specs.declared.values.NullId.{NullId}
 use Rattle.dx_model.specs.declared.values.Value.TheVariants.{Null}
 use Rattle.dx_model.specs.Instances.{values}

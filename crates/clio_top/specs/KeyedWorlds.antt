@@ -2,10 +2,10 @@
 -- would have two departments.
 use Rattle.std.specs.Prelude.{◌≡◌, List, [], ◌∷◌, ◌++◌, codes}
 use Rattle.std.specs.FinMap.{from_entries, get}
-use Rattle.dx_ports.specs.Entries.{Entry, FileMap}
-use Rattle.dx_ports.specs.Members.{◌∈◌}
+use Rattle.dx_base.specs.Entries.{Entry, FileMap}
+use Rattle.dx_base.specs.Members.{◌∈◌}
 use Rattle.dx_ports.specs.States.{OutputState}
-use Rattle.dx_ports.specs.Texts.{Text}
+use Rattle.dx_base.specs.Texts.{Text}
 use Rattle.dx_model.specs.declared.values.Value.TheVariants.{Const}
 use Rattle.dx_stages.specs.Ending.{WroteAll}
 use Rattle.dx_stages.specs.Worlds.{World}

@@ -6,6 +6,7 @@ pub mod KeyedWorlds
 pub mod Leaving
 pub mod Outcomes
 pub mod Promises
+pub mod Right
 pub mod Running
 pub mod SmallWorld
 pub mod Words

@@ -1,8 +1,8 @@
 -- What a run that is done comes to, an exchange above all, and what a clash does: the sentence at the top of docs/ASSURANCE.md, of a run. And laws
 -- of its stages.
 use Rattle.std.specs.Prelude.{◌≡◌, ◌⊎◌, ◌↔◌, ℕ, List, codes, map, Some, None, Bool}
-use Rattle.dx_ports.specs.Members.{Distinct}
-use Rattle.dx_ports.specs.Texts.{Text}
+use Rattle.dx_base.specs.Members.{Distinct}
+use Rattle.dx_base.specs.Texts.{Text}
 use Rattle.dx_ports.specs.States.{OutputState}
 use Rattle.dx_stages.specs.declared.plan.Ended.TheVariants as endeds
 use Rattle.dx_stages.specs.Worlds.{World}

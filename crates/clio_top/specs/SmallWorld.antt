@@ -1,8 +1,8 @@
 -- What an exchange writes in the small world, byte by byte.
 use Rattle.std.specs.Prelude.{List, [], ◌∷◌, ◌++◌, codes}
-use Rattle.dx_ports.specs.Entries.{Entry}
+use Rattle.dx_base.specs.Entries.{Entry}
 use Rattle.dx_ports.specs.States.{OutputState}
-use Rattle.dx_ports.specs.Texts.{Text}
+use Rattle.dx_base.specs.Texts.{Text}
 use Rattle.dx_exchange.specs.declared.result.Exchange.{Exchange}
 use Rattle.dx_stages.specs.Ending.{WroteAll}
 use Rattle.clio_steps.specs.Outcomes.{wrote_all}

@@ -3,8 +3,8 @@ ghost use Rattle.std.specs.Prelude.{◌≡◌};
 ghost use Rattle.clio_top.specs.Words.{without_options, demo_said, exchange_said, is_core, is_nested, demo_with_number, says, show_said};
 
 use crate::numeral::number_in;
+use dx_base::Text;
 use dx_exchange::Mode;
-use dx_ports::Text;
 
 /// What a run is asked to do.
 #[derive(Clone, Copy, PartialEq, Eq)]

@@ -15,11 +15,12 @@ use clio_accept::Mapping;
 use clio_ending::{Done, Refusal};
 use clio_files::nulls_of;
 use clio_steps::exchange_files;
+use dx_base::{Items, Text};
 use dx_exchange::{Exchange, Mode};
 use dx_funcs::{Host, Meaning, Tests};
 use dx_gen::demo_files;
 use dx_instance::Instance;
-use dx_ports::{Items, Text};
+use dx_ports::ReadLog;
 use dx_schema::Schema;
 use dx_stages::{Plan, Stop};
 use std::alloc::{AllocError, Global};
@@ -103,6 +104,7 @@ where
 {
     let mut inputs = DemoInputs {
         files: demo_files(alloc, number)?,
+        log: ReadLog::new(),
     };
     let (mapping, exchange) = exchange_files(alloc, &mut inputs, host, tests, mode)?;
     Ok(plan_demo(alloc, number, &mapping, exchange)?)

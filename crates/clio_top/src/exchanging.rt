@@ -13,9 +13,10 @@ use clio_accept::Mapping;
 use clio_ending::{Done, Refusal};
 use clio_files::{Output, into_files, print_files, summary};
 use clio_steps::exchange_files;
+use dx_base::{Items, Text};
 use dx_exchange::{Exchange, Mode};
 use dx_funcs::{Host, Meaning, Tests};
-use dx_ports::{Inputs, Items, Text};
+use dx_ports::Inputs;
 use dx_stages::{Plan, Stop};
 use std::alloc::{AllocError, Global};
 

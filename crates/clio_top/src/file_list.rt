@@ -1,14 +1,14 @@
 // The files of an exchange.
 ghost use Rattle.std.specs.Prelude.{IfOk};
-ghost use Rattle.dx_ports.specs.Entries.{entries_of};
+ghost use Rattle.dx_base.specs.Entries.{entries_of};
 ghost use Rattle.dx_funcs.specs.Serving.{offered};
 ghost use Rattle.clio_top.specs.FilesOf.{AreFilesOf, CanBeWritten};
 
 use clio_accept::Mapping;
 use clio_files::{Output, into_files, print_files};
+use dx_base::{File, Items, Text};
 use dx_exchange::{Exchange, Mode};
 use dx_funcs::{Host, Meaning};
-use dx_ports::{File, Items, Text};
 use std::alloc::{AllocError, Global};
 
 /// The files that `exchange` puts, in order: `rules.txt`, `script.sql` in this mode, a table for each target table, `nulls.csv`,

@@ -2,8 +2,8 @@
 ghost use Rattle.std.specs.Prelude.{◌≡◌};
 ghost use Rattle.clio_top.specs.Words.{number_after, numeral_number};
 
+use dx_base::Text;
 use dx_gen::EMPLOYEES;
-use dx_ports::Text;
 
 // The number of digits; none if one is no digit, or the number of those up to it is over 100,000.
 fn number_of(digits: &[u8]) -> Option<u32>

@@ -12,9 +12,10 @@ use clio_accept::Mapping;
 use clio_ending::{Done, Refusal};
 use clio_files::{contents, print_texts};
 use clio_steps::{Side, read_mapping};
+use dx_base::{Items, Text};
 use dx_exchange::Mode;
 use dx_funcs::{Host, Meaning, Tests};
-use dx_ports::{Inputs, Items, Text};
+use dx_ports::Inputs;
 use dx_stages::{Plan, Stop};
 use std::alloc::{AllocError, Global};
 

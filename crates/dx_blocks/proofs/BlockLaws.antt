@@ -6,8 +6,8 @@ use Rattle.std.specs.declared.alloc.AllocError.{AllocError}
 use Rattle.std.specs.declared.cmp.Ordering.TheVariants.{Less}
 use Rattle.std.proofs.lemmas.Cmp.{on_total}
 use Rattle.std.proofs.lemmas.List.{take_at}
-use Rattle.dx_ports.specs.Members.{◌∈◌, ◌⊆◌, ◌≈◌}
-use Rattle.dx_ports.proofs.Members.{in_flat_map, in_map}
+use Rattle.dx_base.specs.Members.{◌∈◌, ◌⊆◌, ◌≈◌}
+use Rattle.dx_base.proofs.Members.{in_flat_map, in_map}
 use Rattle.dx_model.specs.declared.values.NullId.{NullId}
 use Rattle.dx_model.specs.declared.values.Value.TheVariants.{Null}
 use Rattle.dx_model.specs.declared.facts.Fact.{Fact}

@@ -6,8 +6,8 @@ use Rattle.std.specs.List.{filter}
 use Rattle.std.specs.declared.cmp.Ordering.{Ordering}
 use Rattle.std.specs.declared.cmp.Ordering.TheVariants.{Less, Equal, Greater}
 use Rattle.std.proofs.lemmas.Bool.{cases_Bool, cases_order, lt-ltb, ltb-true}
-use Rattle.dx_ports.specs.Members.{◌∈◌, here, there, Each}
-use Rattle.dx_ports.proofs.Members.{in_at, in_flat_map, from_map}
+use Rattle.dx_base.specs.Members.{◌∈◌, here, there, Each}
+use Rattle.dx_base.proofs.Members.{in_at, in_flat_map, from_map}
 use Rattle.dx_model.specs.declared.values.NullId.{NullId}
 use Rattle.dx_model.specs.declared.values.Value.TheVariants.{Null}
 use Rattle.dx_model.specs.declared.facts.Fact.{Fact}
@@ -16,7 +16,7 @@ use Rattle.dx_model.specs.Instances.{values}
 use Rattle.dx_model.proofs.Lists.{in_filter}
 use Rattle.dx_model.proofs.Orders.{null_total, null_exact}
 use Rattle.std.specs.Ordering.{ordering_reverse}
-use Rattle.dx_ports.proofs.Tests.{from_filter}
+use Rattle.dx_base.proofs.Tests.{from_filter}
 use Rattle.dx_blocks.specs.declared.block.Block.{Block}
 use Rattle.dx_blocks.specs.Blocks.{AreBlocks, IsBlockOf, least}
 use Rattle.dx_model.specs.Blocks.{Connected}

@@ -1,7 +1,7 @@
 -- Connected nulls.
 use Rattle.std.proofs.Common.{◌≡◌, List, subst}
-use Rattle.dx_ports.specs.Members.{◌∈◌, ◌⊆◌}
-use Rattle.dx_ports.proofs.Members.{in_flat_map}
+use Rattle.dx_base.specs.Members.{◌∈◌, ◌⊆◌}
+use Rattle.dx_base.proofs.Members.{in_flat_map}
 use Rattle.dx_model.specs.declared.values.NullId.{NullId}
 use Rattle.dx_model.specs.declared.values.Value.TheVariants.{Null}
 use Rattle.dx_model.specs.declared.facts.Fact.{Fact}

@@ -2,9 +2,9 @@
 use Rattle.std.proofs.Common.{◌≡◌, ℕ, ◌+◌, ◌<◌, ◌≤◌, List, [], ◌∷◌, ◌++◌, inl, inr, refl, sym, ◌∙◌, ap, arith}
 use Rattle.std.proofs.Common.{length, get_or, set, take, replicate, length-set, get_or-set_same, get_or-set_other, append_assoc}
 use Rattle.std.proofs.lemmas.Bool.{cases_eq}
-use Rattle.dx_ports.proofs.Members.{in_right}
+use Rattle.dx_base.proofs.Members.{in_right}
 use Rattle.std.proofs.lemmas.List.{take_more, take_all, length-replicate, get_or-replicate, get_or_read}
-use Rattle.dx_ports.specs.Members.{◌∈◌, here, Each}
+use Rattle.dx_base.specs.Members.{◌∈◌, here, Each}
 use Rattle.dx_model.specs.declared.values.NullId.{NullId}
 use Rattle.dx_model.specs.declared.values.Value.TheVariants.{Null}
 use Rattle.dx_model.specs.declared.facts.Fact.{Fact}

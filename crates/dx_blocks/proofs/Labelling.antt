@@ -4,9 +4,9 @@ use Rattle.std.proofs.Common.{length, get_or, take}
 use Rattle.std.specs.List.{range_with_len}
 use Rattle.std.proofs.lemmas.List.{take_more, take_all, take_at}
 use Rattle.std.proofs.lemmas.List.FromFn.{length-range_with_len}
-use Rattle.dx_ports.specs.Members.{◌∈◌, here, there}
-use Rattle.dx_ports.proofs.Loops.{each_item, each_more}
-use Rattle.dx_ports.proofs.Members.{in_at, in_flat_map, from_append}
+use Rattle.dx_base.specs.Members.{◌∈◌, here, there}
+use Rattle.dx_base.proofs.Loops.{each_item, each_more}
+use Rattle.dx_base.proofs.Members.{in_at, in_flat_map, from_append}
 use Rattle.dx_model.specs.declared.values.NullId.{NullId}
 use Rattle.dx_model.specs.declared.values.Value.{Value}
 use Rattle.dx_model.specs.declared.values.Value.TheVariants.{Null}

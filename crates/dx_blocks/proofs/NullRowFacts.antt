@@ -6,10 +6,10 @@ use Rattle.std.specs.declared.cmp.Ordering.TheVariants.{Less}
 use Rattle.std.proofs.lemmas.Bool.{cases_eq, cases_lt}
 use Rattle.std.proofs.lemmas.List.{length-map, get_or-map, get_or_default, take_all}
 use Rattle.std.proofs.lemmas.List.FromFn.{length-range_with_len}
-use Rattle.dx_ports.specs.Members.{◌∈◌, here, there, Each}
-use Rattle.dx_ports.proofs.Loops.{each_more}
-use Rattle.dx_ports.proofs.Members.{in_map, from_map, in_left, in_right, from_append}
-use Rattle.dx_ports.proofs.Ranges.{from_range, to_range}
+use Rattle.dx_base.specs.Members.{◌∈◌, here, there, Each}
+use Rattle.dx_base.proofs.Loops.{each_more}
+use Rattle.dx_base.proofs.Members.{in_map, from_map, in_left, in_right, from_append}
+use Rattle.dx_base.proofs.Ranges.{from_range, to_range}
 use Rattle.dx_model.specs.declared.values.NullId.{NullId}
 use Rattle.dx_model.specs.declared.values.Value.{Value}
 use Rattle.dx_model.specs.declared.values.Value.TheVariants.{Const, Null}

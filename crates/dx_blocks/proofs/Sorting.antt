@@ -2,7 +2,7 @@
 use Rattle.std.proofs.Common.{List, []}
 use Rattle.std.specs.List.Sorted.{IsSorted, IsPermutation}
 use Rattle.std.specs.List.Retain.{IsFiltered, DiffersFromLast}
-use Rattle.dx_ports.specs.Members.{◌≈◌}
+use Rattle.dx_base.specs.Members.{◌≈◌}
 use Rattle.dx_model.specs.declared.values.NullId.{NullId}
 use Rattle.dx_model.specs.contracts.values.NullIdOrd.TheImpl.{cmp-value as null_order}
 use Rattle.dx_model.specs.contracts.values.NullIdOrd.TheImpl.Laws.{total-law as null_order_total, matches_eq-law as null_ties}

@@ -1,6 +1,6 @@
 -- The blocks of an instance, in order.
 use Rattle.std.specs.Prelude.{◌↔◌, List, map, slice_index_or}
-use Rattle.dx_ports.specs.Members.{◌∈◌, Each}
+use Rattle.dx_base.specs.Members.{◌∈◌, Each}
 use Rattle.dx_model.specs.declared.values.NullId.{NullId}
 use Rattle.dx_model.specs.declared.values.Value.TheVariants.{Null}
 use Rattle.dx_model.specs.declared.facts.Fact.{Fact}

@@ -1,7 +1,7 @@
 -- Numbers of nulls, the rows that hold them, and the facts of rows.
 use Rattle.std.specs.Prelude.{◌≡◌, ◌↔◌, ℕ, ◌<◌, ◌≤◌, ◌-◌, ◌⊎◌, Bool, nat_lt, List, [], length, map}
 use Rattle.std.specs.List.{range_with_len}
-use Rattle.dx_ports.specs.Members.{◌∈◌, Each}
+use Rattle.dx_base.specs.Members.{◌∈◌, Each}
 use Rattle.dx_model.specs.declared.values.NullId.{NullId}
 use Rattle.dx_model.specs.declared.values.Value.TheVariants.{Null}
 use Rattle.dx_model.specs.declared.facts.Fact.{Fact}

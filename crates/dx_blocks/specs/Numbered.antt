@@ -1,6 +1,6 @@
 -- Blocks of numbers, and the blocks that they show.
 use Rattle.std.specs.Prelude.{◌≡◌, ℕ, ◌<◌, length, map}
-use Rattle.dx_ports.specs.Members.{Each}
+use Rattle.dx_base.specs.Members.{Each}
 use Rattle.dx_model.specs.declared.values.NullId.{NullId}
 use Rattle.dx_model.specs.declared.values.Value.{Value}
 use Rattle.dx_model.specs.declared.values.Value.TheVariants.{Const, Null}

@@ -1,8 +1,8 @@
 // A block of an instance.
 ghost use Rattle.std.specs.Prelude.{◌≡◌, []};
 
+use dx_base::Items;
 use dx_model::{Fact, NullId};
-use dx_ports::Items;
 use std::alloc::Global;
 
 /// Nulls that facts connect with one another and with no other null, and the facts that hold one of them. Both ascend.

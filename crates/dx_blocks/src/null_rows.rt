@@ -1,6 +1,6 @@
 // The numbers of nulls, and the rows that hold them.
 ghost use Rattle.std.specs.Prelude.{◌<◌, ◌≤◌, ◌+◌, IfNone, IfOk, IfSome, OnOk, length};
-ghost use Rattle.dx_ports.specs.Members.{◌∈◌, Each};
+ghost use Rattle.dx_base.specs.Members.{◌∈◌, Each};
 ghost use Rattle.dx_instance.specs.Numbers.{ValuesAscend};
 ghost use Rattle.dx_blocks.specs.NullRows.{AreNullRows, IsFirstNull};
 

@@ -1,6 +1,6 @@
 // The nulls of facts, and their places in a list.
 ghost use Rattle.std.specs.Prelude.{◌≡◌, ◌<◌, ◌++◌, IfOk, IfNone, IfSome, OnOk, length};
-ghost use Rattle.dx_ports.specs.Members.{◌∈◌};
+ghost use Rattle.dx_base.specs.Members.{◌∈◌};
 ghost use Rattle.dx_model.specs.declared.values.NullId.{NullId};
 ghost use Rattle.dx_model.specs.declared.values.Value.TheVariants.{Null};
 ghost use Rattle.dx_model.specs.Values.{NullsAscend, null_at};

@@ -1,7 +1,7 @@
 // Rows and nulls, put into blocks by labels. Block k has the label k; it stays empty if no row holds a null of that label.
 ghost use Rattle.std.specs.Prelude.{◌≡◌, [], IfOk, OnOk, replicate};
 ghost use Rattle.std.specs.List.{filter};
-ghost use Rattle.dx_ports.specs.Members.{Each};
+ghost use Rattle.dx_base.specs.Members.{Each};
 ghost use Rattle.dx_model.specs.Values.{FactsAscend};
 ghost use Rattle.dx_blocks.specs.Labels.{AreFilled};
 ghost use Rattle.dx_blocks.specs.Numbered.{IsOfNumbers};

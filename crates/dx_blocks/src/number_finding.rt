@@ -1,6 +1,6 @@
 // The blocks of an instance that is lent as tables of numbers.
 ghost use Rattle.std.specs.Prelude.{IfOk, length, map};
-ghost use Rattle.dx_ports.specs.Members.{Each};
+ghost use Rattle.dx_base.specs.Members.{Each};
 ghost use Rattle.dx_model.specs.Values.{FactsAscend};
 ghost use Rattle.dx_instance.specs.Stored.{facts};
 ghost use Rattle.dx_instance.specs.Numbers.{ValuesAscend};

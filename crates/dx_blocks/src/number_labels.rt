@@ -1,6 +1,6 @@
 // Labels of nulls by their numbers: two nulls have one label exactly if rows connect them.
 ghost use Rattle.std.specs.Prelude.{◌-◌, ◌≤◌, IfOk, length};
-ghost use Rattle.dx_ports.specs.Members.{◌∈◌, Each};
+ghost use Rattle.dx_base.specs.Members.{◌∈◌, Each};
 ghost use Rattle.dx_blocks.specs.Forest.{IsForest};
 ghost use Rattle.dx_blocks.specs.Labels.{AreLabels, JoinsAll, JoinsRow};
 ghost use Rattle.dx_blocks.specs.Numbered.{IsRowIn, fact_of};

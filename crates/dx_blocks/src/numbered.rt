@@ -1,7 +1,7 @@
 // A block of rows of numbers.
 ghost use Rattle.std.specs.Prelude.{◌≡◌, []};
 
-use dx_ports::Items;
+use dx_base::Items;
 use std::alloc::Global;
 
 /// A row, by the number of its table and its place there.

@@ -6,9 +6,9 @@ use Rattle.std.proofs.lemmas.Bool.{lt-ltb, le-ltb, cases_Bool}
 use Rattle.std.proofs.lemmas.List.{append-nil, map-append, length-map, length-append, take_all, take_more}
 use Rattle.std.proofs.lemmas.List.Concat.{flat_map-append}
 use Rattle.std.proofs.lemmas.List.Elements.{filter-append, filter_agree}
-use Rattle.dx_ports.specs.Members.{Each}
-use Rattle.dx_ports.proofs.Members.{in_at}
-use Rattle.dx_ports.specs.declared.file.Limit.{Limit}
+use Rattle.dx_base.specs.Members.{Each}
+use Rattle.dx_base.proofs.Members.{in_at}
+use Rattle.dx_base.specs.declared.file.Limit.{Limit}
 use Rattle.dx_model.specs.Tables.{Table}
 use Rattle.dx_model.specs.declared.rules.Rule.{Rule}
 use Rattle.dx_logical.specs.declared.relation.Relation.{Relation}
@@ -31,7 +31,7 @@ use Rattle.dx_candidates.proofs.Paired.{at_item, item_has, pairs_are}
 use Rattle.dx_candidates.proofs.Readable.{are_variants, are_read, are_reached, have_variables}
 use Rattle.dx_candidates.proofs.Lists.{flat_by_numbers, any_by_numbers}
 use Rattle.dx_parts.proofs.Decide.{greatest_parts_decide}
-use Rattle.dx_ports.proofs.Tests.{flat_map_same, any_same, map_same}
+use Rattle.dx_base.proofs.Tests.{flat_map_same, any_same, map_same}
 use Rattle.dx_lines.proofs.Sources.{from_variants, is_unfolding}
 
 -- ---- lists of lists

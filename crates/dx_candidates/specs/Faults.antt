@@ -1,8 +1,8 @@
 -- The faults of the layers below, as limits.
 use Rattle.std.specs.Prelude.{◌≡◌, ◌⊎◌, Bool, true, List, Option, None, Some}
-use Rattle.dx_ports.specs.declared.file.Limit.{Limit}
-use Rattle.dx_ports.specs.declared.file.Count.TheVariants.{Variants, Occurrences, Ways, Candidates}
-use Rattle.dx_ports.specs.declared.limits.TheConstants.{VARIANTS, OCCURRENCES, WAYS, CANDIDATES}
+use Rattle.dx_base.specs.declared.file.Limit.{Limit}
+use Rattle.dx_base.specs.declared.file.Count.TheVariants.{Variants, Occurrences, Ways, Candidates}
+use Rattle.dx_base.specs.declared.limits.TheConstants.{VARIANTS, OCCURRENCES, WAYS, CANDIDATES}
 use Rattle.dx_model.specs.Tables.{Table}
 use Rattle.dx_logical.specs.declared.fault.ManyFault.{ManyFault}
 use Rattle.dx_logical.specs.declared.fault.ManyFault.TheVariants as unfolded

@@ -1,7 +1,7 @@
 // Why candidates aren't listed.
+use dx_base::limits::{OCCURRENCES, VARIANTS, WAYS};
+use dx_base::{Count, Limit};
 use dx_logical::ManyFault;
-use dx_ports::limits::{OCCURRENCES, VARIANTS, WAYS};
-use dx_ports::{Count, Limit};
 use dx_ways::WaysFault;
 use std::alloc::AllocError;
 use thiserror::Error;

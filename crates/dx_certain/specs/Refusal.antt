@@ -1,6 +1,6 @@
 -- Why a list of answers is refused.
 use Rattle.std.specs.Prelude.{◌≡◌, ℕ, List}
-use Rattle.dx_ports.specs.declared.file.Count.TheVariants.{AnswerCells}
+use Rattle.dx_base.specs.declared.file.Count.TheVariants.{AnswerCells}
 use Rattle.dx_model.specs.declared.facts.Fact.{Fact}
 use Rattle.dx_queries.specs.declared.query.Query.{Query}
 use Rattle.dx_queries.specs.Results.{AnswersPassLimit}

@@ -1,6 +1,6 @@
 // The certain answers of a query.
 ghost use Rattle.std.specs.Prelude.{◌≡◌, ◌<◌, ◌≤◌, ◌*◌, ◌/◌, ◌∷◌, ◌++◌, [], IfErr, IfOk, OnOk, length, map};
-ghost use Rattle.dx_ports.specs.Members.{Each};
+ghost use Rattle.dx_base.specs.Members.{Each};
 ghost use Rattle.dx_instance.specs.Stored.{facts, rows_of, table_at, widths};
 ghost use Rattle.dx_instance.specs.Places.{row_at};
 ghost use Rattle.dx_instance.specs.Ranks.{text_of_value};
@@ -12,9 +12,9 @@ ghost use Rattle.dx_certain.specs.Finding.{HasThose, IsAmong};
 
 use crate::adding::{add_part, has_answer};
 use crate::fault::CertainFault;
+use dx_base::{Count, Limit, Text};
 use dx_instance::{Instance, Value};
 use dx_model::Tuples;
-use dx_ports::{Count, Limit, Text};
 use dx_queries::{Part, Query};
 use std::alloc::{AllocError, Global};
 

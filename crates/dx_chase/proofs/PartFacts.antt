@@ -4,9 +4,9 @@ use Rattle.std.specs.Prelude.{map}
 use Rattle.std.specs.List.{range_with_len}
 use Rattle.std.proofs.lemmas.List.{append-nil, append_assoc, length-append, get_or_append_left, get_or-append_right, length-map, map-append, map_more}
 use Rattle.std.proofs.lemmas.List.FromFn.{get_or-map-range_with_len, length-map-range_with_len}
-use Rattle.dx_ports.specs.Members.{◌∈◌, Each}
-use Rattle.dx_ports.proofs.Members.{in_at, in_left, in_right, in_map, from_append, from_map}
-use Rattle.dx_ports.proofs.Ranges.{from_range, to_range}
+use Rattle.dx_base.specs.Members.{◌∈◌, Each}
+use Rattle.dx_base.proofs.Members.{in_at, in_left, in_right, in_map, from_append, from_map}
+use Rattle.dx_base.proofs.Ranges.{from_range, to_range}
 use Rattle.dx_chase.specs.Demands.{Demand}
 use Rattle.dx_chase.specs.Tables.{ChaseTable}
 use Rattle.dx_chase.specs.Joins.{AreDemands, nth, demand_at}

@@ -2,9 +2,9 @@
 use Rattle.std.proofs.Common.{◌≡◌, ◌∙◌, ℕ, ◌+◌, ◌-◌, ◌<◌, List, [], ◌∷◌, ◌++◌, ◌⊎◌, inl, inr, refl, sym, ap, length, arith}
 use Rattle.std.specs.List.{range_with_len}
 use Rattle.std.proofs.lemmas.List.{append-nil, nil_from_length}
-use Rattle.dx_ports.specs.Members.{◌∈◌, ◌⊆◌, here, there, Each}
-use Rattle.dx_ports.proofs.Members.{from_append, in_left, in_right}
-use Rattle.dx_ports.proofs.Ranges.{to_range}
+use Rattle.dx_base.specs.Members.{◌∈◌, ◌⊆◌, here, there, Each}
+use Rattle.dx_base.proofs.Members.{from_append, in_left, in_right}
+use Rattle.dx_base.proofs.Ranges.{to_range}
 use Rattle.dx_chase.specs.Work.{AddsNumbers}
 use Rattle.dx_chase.proofs.Opening.{firsts_more}
 

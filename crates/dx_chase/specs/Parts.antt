@@ -1,7 +1,7 @@
 -- Demands in parts: what the rows of a table owe to one determination, part after part.
 use Rattle.std.specs.Prelude.{◌≡◌, ℕ, ◌<◌, ◌+◌, List, [], ◌∷◌, ◌++◌, map, length, slice_index_or}
 use Rattle.std.specs.List.{range_with_len}
-use Rattle.dx_ports.specs.Members.{Each}
+use Rattle.dx_base.specs.Members.{Each}
 use Rattle.dx_chase.specs.Demands.{Demand}
 use Rattle.dx_chase.specs.Tables.{ChaseTable}
 use Rattle.dx_chase.specs.Joins.{nth}

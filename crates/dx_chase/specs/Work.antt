@@ -1,6 +1,6 @@
 -- What waits once more numbers wait.
 use Rattle.std.specs.Prelude.{ℕ, ◌⊎◌, List}
-use Rattle.dx_ports.specs.Members.{◌∈◌, ◌⊆◌, Each}
+use Rattle.dx_base.specs.Members.{◌∈◌, ◌⊆◌, Each}
 
 -- the new list has what the old one has and the numbers, and nothing else
 pub record AddsNumbers (more old new : List ℕ) : Type 0 where

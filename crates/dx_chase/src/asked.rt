@@ -1,6 +1,6 @@
 // Demands as numbers: rows stay as they lie.
 ghost use Rattle.std.specs.Prelude.{◌≡◌, ◌<◌, ◌≤◌, ◌+◌, IfOk, OnOk, length};
-ghost use Rattle.dx_ports.specs.Members.{Each};
+ghost use Rattle.dx_base.specs.Members.{Each};
 ghost use Rattle.dx_chase.specs.Joins.{demand_at};
 ghost use Rattle.dx_chase.specs.Parts.{LieFrom, demands_in, chase_part_at, picked};
 ghost use Rattle.dx_chase.specs.Rows.{AddsRows, AddsTable, AreRowDemands, ColumnsFit, determination_columns, determination_count, number_row, row_count};

@@ -1,8 +1,8 @@
 // Tables of numbers with what determines what in them.
 ghost use Rattle.std.specs.Prelude.{◌≡◌, ◌<◌, [], length, slice_index_or};
 
+use dx_base::Items;
 use dx_instance::Rows;
-use dx_ports::Items;
 use std::marker::Model;
 
 /// Columns of a table that determine others.

@@ -1,7 +1,7 @@
 -- Where a closing begins.
 use Rattle.std.proofs.Common.{◌≡◌, ℕ, ◌*◌, ◌<◌, ◌≤◌, List, length, refl, arith}
 use Rattle.std.proofs.lemmas.List.{length-map}
-use Rattle.dx_ports.specs.Members.{Each}
+use Rattle.dx_base.specs.Members.{Each}
 use Rattle.dx_model.specs.declared.rules.Atom.{Atom}
 use Rattle.dx_model.specs.Solutions.{AtomFits}
 use Rattle.dx_schema.specs.Forest.{Forest}

@@ -11,7 +11,7 @@ use Rattle.dx_model.specs.Rules.{cells_of}
 use Rattle.dx_model.specs.Tables.{Table}
 use Rattle.dx_schema.specs.Forest.{Forest, none, set, bare_set}
 use Rattle.dx_schema.specs.Tables.{model_tables}
-use Rattle.dx_ports.specs.Texts.{Text}
+use Rattle.dx_base.specs.Texts.{Text}
 use Rattle.dx_closing.specs.Closing.{IsClosing, IsClosingOf}
 
 abbrev a : Text

@@ -4,8 +4,8 @@ use Rattle.std.specs.Prelude.{slice_get, slice_index_or}
 use Rattle.std.specs.List.{list_any}
 use Rattle.std.proofs.lemmas.Bool.{cond-true, eq-eqb, or_right}
 use Rattle.std.proofs.lemmas.Slice.Eq.{bytes_eq-Decides}
-use Rattle.dx_ports.specs.Members.{◌∈◌, here, there, Each}
-use Rattle.dx_ports.proofs.Lists.{get_in}
+use Rattle.dx_base.specs.Members.{◌∈◌, here, there, Each}
+use Rattle.dx_base.proofs.Lists.{get_in}
 use Rattle.dx_model.specs.declared.rules.Cell.{Cell}
 use Rattle.dx_model.specs.declared.rules.Cell.TheVariants.{Var, Ex, Lit}
 use Rattle.dx_model.specs.declared.rules.Atom.{Atom}

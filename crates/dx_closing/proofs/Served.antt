@@ -5,9 +5,9 @@ use Rattle.std.specs.List.{list_any}
 use Rattle.std.proofs.lemmas.Bool.{cases_Bool, cases_lt, cond-true, cond-false, eqb-true, and_parts, false≢true}
 use Rattle.std.proofs.lemmas.List.{length-map}
 use Rattle.std.proofs.lemmas.Slice.Eq.{bytes_eq-Decides}
-use Rattle.dx_ports.specs.Members.{◌∈◌, here, there, Each, Distinct}
-use Rattle.dx_ports.proofs.Members.{in_left, in_right, from_append}
-use Rattle.dx_ports.proofs.Lists.{get_in}
+use Rattle.dx_base.specs.Members.{◌∈◌, here, there, Each, Distinct}
+use Rattle.dx_base.proofs.Members.{in_left, in_right, from_append}
+use Rattle.dx_base.proofs.Lists.{get_in}
 use Rattle.dx_model.specs.declared.rules.Cell.{Cell}
 use Rattle.dx_model.specs.declared.rules.Cell.TheVariants.{Var, Ex, Lit}
 use Rattle.dx_model.specs.declared.rules.Atom.{Atom}

@@ -1,7 +1,7 @@
 -- What holds of closings.
 use Rattle.std.specs.Prelude.{◌≡◌, ◌<◌, ◌≤◌, ◌*◌, ◌++◌, List, length}
-use Rattle.dx_ports.specs.declared.limits.TheConstants.{OCCURRENCES, COLUMNS}
-use Rattle.dx_ports.specs.Members.{Each}
+use Rattle.dx_base.specs.declared.limits.TheConstants.{OCCURRENCES, COLUMNS}
+use Rattle.dx_base.specs.Members.{Each}
 use Rattle.dx_model.specs.declared.rules.Atom.{Atom}
 use Rattle.dx_model.specs.declared.rules.Rule.{Rule}
 use Rattle.dx_model.specs.Solutions.{AtomFits, IsClosed}

@@ -1,6 +1,6 @@
 // Whether a conclusion can be closed.
 ghost use Rattle.std.specs.Prelude.{◌↔◌, ℕ, IfSome, IsSome, IsTrue, flat_map};
-ghost use Rattle.dx_ports.specs.Members.{Each};
+ghost use Rattle.dx_base.specs.Members.{Each};
 ghost use Rattle.dx_model.specs.Solutions.{AtomFits};
 ghost use Rattle.dx_model.specs.Fitting.{AreNumbered, ByFirstAppearance};
 ghost use Rattle.dx_model.specs.Rules.{existential_in};

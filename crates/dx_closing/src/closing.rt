@@ -1,6 +1,6 @@
 // The closing of a rule.
 ghost use Rattle.std.specs.Prelude.{◌≡◌, ◌≤◌, ◌<◌, List, IfOk, IfErr, length};
-ghost use Rattle.dx_ports.specs.Members.{Each};
+ghost use Rattle.dx_base.specs.Members.{Each};
 ghost use Rattle.dx_model.specs.declared.rules.Atom.{Atom as AtomRow};
 ghost use Rattle.dx_model.specs.Solutions.{AtomFits, IsClosed};
 ghost use Rattle.dx_model.specs.Fitting.{AreNumbered};
@@ -12,8 +12,8 @@ use crate::fault::CloseFault;
 use crate::growing::Growing;
 use crate::links::follow_atom;
 use crate::variables::above_all;
+use dx_base::limits::OCCURRENCES;
 use dx_model::Rule;
-use dx_ports::limits::OCCURRENCES;
 use dx_schema::Schema;
 use std::alloc::Global;
 

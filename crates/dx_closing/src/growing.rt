@@ -1,6 +1,6 @@
 // A conclusion on its way to its closing.
+use dx_base::Items;
 use dx_model::Atom;
-use dx_ports::Items;
 
 /// A conclusion that grows: its atoms, and the number of the next existential variable.
 #[derive(Drop)]

@@ -1,7 +1,7 @@
 // The links of an atom, and the atoms that serve them.
 ghost use Rattle.std.specs.Prelude.{◌≡◌, ◌≤◌, ◌<◌, IfErr, OnOk, length};
 ghost use Rattle.std.specs.List.{list_any};
-ghost use Rattle.dx_ports.specs.Members.{Each};
+ghost use Rattle.dx_base.specs.Members.{Each};
 ghost use Rattle.dx_model.specs.Solutions.{AtomFits};
 ghost use Rattle.dx_model.specs.Tables.{AreWithin, table_of};
 ghost use Rattle.dx_schema.specs.Tables.{AreTables, model_tables, tables_of};
@@ -13,9 +13,9 @@ ghost use Rattle.dx_closing.specs.Laws.{IsRoomy, IsWideClosing};
 use crate::cells::{chosen_cells, copy_row, filled_cells, has_chosen};
 use crate::fault::CloseFault;
 use crate::growing::Growing;
+use dx_base::Items;
+use dx_base::limits::OCCURRENCES;
 use dx_model::{Atom, Cell, Link};
-use dx_ports::Items;
-use dx_ports::limits::OCCURRENCES;
 use dx_schema::Schema;
 use std::alloc::Global;
 

@@ -1,7 +1,7 @@
 // The numbers of existential variables.
 ghost use Rattle.std.specs.Prelude.{◌≡◌, ◌<◌, ◌*◌, flat_map};
-ghost use Rattle.dx_ports.specs.declared.limits.TheConstants.{OCCURRENCES, COLUMNS};
-ghost use Rattle.dx_ports.specs.Members.{Each};
+ghost use Rattle.dx_base.specs.declared.limits.TheConstants.{OCCURRENCES, COLUMNS};
+ghost use Rattle.dx_base.specs.Members.{Each};
 ghost use Rattle.dx_model.specs.Rules.{existential_in, existentials};
 ghost use Rattle.dx_closing.specs.Closing.{above};
 

@@ -3,13 +3,13 @@ use Rattle.std.proofs.Common.{◌≡◌, ◌↔◌, ℕ, zero, suc, ◌+◌, ◌
 use Rattle.std.specs.Prelude.{IfNone, Option, None, slice_get}
 use Rattle.std.proofs.lemmas.Bool.{cases_lt}
 use Rattle.std.proofs.lemmas.List.{take_all}
-use Rattle.dx_ports.specs.Members.{◌∈◌, here, there, Each}
-use Rattle.dx_ports.proofs.Loops.{each_more}
-use Rattle.dx_ports.proofs.Members.{from_append, in_left, in_right, item_in}
+use Rattle.dx_base.specs.Members.{◌∈◌, here, there, Each}
+use Rattle.dx_base.proofs.Loops.{each_more}
+use Rattle.dx_base.proofs.Members.{from_append, in_left, in_right, item_in}
 use Rattle.dx_model.specs.declared.rules.Rule.{Rule}
 use Rattle.dx_model.specs.Values.{Conversions}
-use Rattle.dx_ports.specs.Texts.{Text}
-use Rattle.dx_ports.proofs.Lists.{get_at, get_in}
+use Rattle.dx_base.specs.Texts.{Text}
+use Rattle.dx_base.proofs.Lists.{get_at, get_in}
 use Rattle.dx_model.specs.Following.{Follows, Implies}
 use Rattle.dx_schema.specs.Forest.{Forest}
 use Rattle.dx_instance.specs.Stored.{facts}

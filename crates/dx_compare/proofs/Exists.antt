@@ -2,8 +2,8 @@
 use Rattle.std.proofs.Common.{◌≡◌, ◌⊎◌, ℕ, zero, suc, ◌+◌, ◌<◌, false, List, [], ◌∷◌, ◌++◌, length, get_or, take, refl, ◌∙◌, subst, arith, inl, inr}
 use Rattle.std.specs.Prelude.{map, max}
 use Rattle.std.proofs.lemmas.Bool.{cases_eq, false≢true}
-use Rattle.dx_ports.specs.Members.{◌∈◌, ◌≈◌, here, there, Each}
-use Rattle.dx_ports.proofs.Members.{from_append, from_map}
+use Rattle.dx_base.specs.Members.{◌∈◌, ◌≈◌, here, there, Each}
+use Rattle.dx_base.proofs.Members.{from_append, from_map}
 use Rattle.dx_model.specs.declared.values.Value.{Value}
 use Rattle.dx_model.specs.declared.values.Value.TheVariants.{Const, Null}
 use Rattle.dx_model.specs.declared.facts.Fact.{Fact}
@@ -12,7 +12,7 @@ use Rattle.dx_model.specs.declared.rules.Cell.TheVariants.{Var, Ex, Lit}
 use Rattle.dx_model.specs.declared.rules.Atom.{Atom}
 use Rattle.dx_model.specs.declared.rules.Rule.{Rule}
 use Rattle.dx_model.specs.Values.{Tuple, Rows, Conversions}
-use Rattle.dx_ports.specs.Texts.{Text}
+use Rattle.dx_base.specs.Texts.{Text}
 use Rattle.dx_model.specs.Rules.{at_place, at_places, canonical, exported, premise_fact, fact_of_atom, text_of}
 use Rattle.dx_model.specs.Fitting.{RuleFits}
 use Rattle.dx_model.specs.Following.{Follows, IsClean, frozen, frozen_text}

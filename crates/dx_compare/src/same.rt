@@ -2,7 +2,7 @@
 ghost use Rattle.std.specs.Prelude.{◌≡◌, ◌↔◌, IsTrue};
 ghost use Rattle.dx_schema.specs.Forest.{forest_of};
 
-use dx_ports::Text;
+use dx_base::Text;
 use dx_schema::{DepDecl, KeyDecl, RefDecl, SetTree};
 
 /// What can be told from others of its kind.

@@ -3,8 +3,8 @@ use Rattle.std.proofs.Common.{◌≡◌, ◌∙◌, ℕ, zero, suc, ◌<◌, ◌
 use Rattle.std.specs.Prelude.{MatchOption, IfSome, Option, Some, None}
 use Rattle.std.proofs.lemmas.List.{get_or_default, length-map}
 use Rattle.std.proofs.lemmas.Slice.Zip.{AllZip-long}
-use Rattle.dx_ports.specs.Members.{◌∈◌, Distinct, Each}
-use Rattle.dx_ports.proofs.Members.{from_map, in_at, in_map}
+use Rattle.dx_base.specs.Members.{◌∈◌, Distinct, Each}
+use Rattle.dx_base.proofs.Members.{from_map, in_at, in_map}
 use Rattle.dx_model.specs.declared.values.NullId.{NullId}
 use Rattle.dx_model.specs.declared.values.Value.{Value}
 use Rattle.dx_model.specs.declared.values.Value.TheVariants.{Const, Null}

@@ -3,9 +3,9 @@ use Rattle.std.proofs.Common.{◌≡◌, ◌∙◌, ℕ, ◌+◌, ◌<◌, ◌�
 use Rattle.std.specs.List.{AllZip}
 use Rattle.std.proofs.lemmas.Bool.{true≢false}
 use Rattle.std.proofs.lemmas.List.{take_all, take_more}
-use Rattle.dx_ports.specs.Members.{◌∈◌, Each, here, there}
-use Rattle.dx_ports.proofs.Lists.{zip_push}
-use Rattle.dx_ports.proofs.Members.{from_append, in_left, in_right}
+use Rattle.dx_base.specs.Members.{◌∈◌, Each, here, there}
+use Rattle.dx_base.proofs.Lists.{zip_push}
+use Rattle.dx_base.proofs.Members.{from_append, in_left, in_right}
 use Rattle.dx_instance.specs.Shown.{NumberedInstance, PartsFit}
 use Rattle.dx_blocks.specs.declared.numbered.At.{At}
 use Rattle.dx_blocks.specs.Numbered.{IsRowIn}

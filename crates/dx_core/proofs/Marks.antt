@@ -3,7 +3,7 @@ use Rattle.std.proofs.Common.{◌≡◌, ◌∙◌, ℕ, zero, suc, Bool, false,
 use Rattle.std.proofs.Common.{length, get_or}
 use Rattle.std.specs.Prelude.{map, replicate}
 use Rattle.std.proofs.lemmas.List.{length-map, length-replicate}
-use Rattle.dx_ports.proofs.Lists.{none_in}
+use Rattle.dx_base.proofs.Lists.{none_in}
 use Rattle.dx_instance.specs.Stored.{TableRows, rows_of}
 use Rattle.dx_model.specs.declared.values.Value.{Value}
 use Rattle.dx_instance.specs.Cells.{NumberTable}

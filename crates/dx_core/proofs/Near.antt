@@ -2,8 +2,8 @@
 use Rattle.std.proofs.Common.{◌≡◌, ◌∙◌, ℕ, Bool, true, false, List, [], ◌∷◌, ◌++◌, inl, inr, ap, subst, map}
 use Rattle.std.specs.Prelude.{MatchOption, Option, Some, None, is_some, not}
 use Rattle.std.proofs.lemmas.Bool.{true≢false}
-use Rattle.dx_ports.specs.Members.{◌∈◌, Each, here, there}
-use Rattle.dx_ports.proofs.Members.{from_append, from_map, in_map}
+use Rattle.dx_base.specs.Members.{◌∈◌, Each, here, there}
+use Rattle.dx_base.proofs.Members.{from_append, from_map, in_map}
 use Rattle.dx_model.specs.declared.facts.Fact.{Fact}
 use Rattle.dx_instance.specs.Shown.{NumberedInstance}
 use Rattle.dx_blocks.specs.declared.numbered.At.{At}

@@ -1,8 +1,8 @@
 -- Rows that no endomorphism moves to a certain row.
 use Rattle.std.proofs.Common.{◌≡◌, ◌∙◌, ℕ, zero, suc, ◌<◌, List, [], ◌∷◌, ◌++◌, inl, inr, refl, sym, ap, subst, arith, length, get_or, map}
 use Rattle.std.specs.Prelude.{None, Option, Some}
-use Rattle.dx_ports.specs.Members.{◌∈◌, Each, here, there}
-use Rattle.dx_ports.proofs.Members.{from_append, from_map, in_at}
+use Rattle.dx_base.specs.Members.{◌∈◌, Each, here, there}
+use Rattle.dx_base.proofs.Members.{from_append, from_map, in_at}
 use Rattle.dx_model.specs.declared.values.NullId.{NullId}
 use Rattle.dx_model.specs.declared.values.Value.{Value}
 use Rattle.dx_model.specs.declared.values.Value.TheVariants.{Null}

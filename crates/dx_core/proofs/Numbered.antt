@@ -4,8 +4,8 @@ use Rattle.std.specs.List.{AllPairs}
 use Rattle.std.specs.Ordering.{nat_cmp}
 use Rattle.std.specs.Cmp.Lexicographic.{slice_cmp}
 use Rattle.std.specs.declared.cmp.Ordering.TheVariants.{Less}
-use Rattle.dx_ports.specs.Members.{Each, here, there}
-use Rattle.dx_ports.proofs.Members.{in_at, in_map}
+use Rattle.dx_base.specs.Members.{Each, here, there}
+use Rattle.dx_base.proofs.Members.{in_at, in_map}
 use Rattle.dx_model.specs.declared.values.Value.{Value}
 use Rattle.dx_model.specs.declared.values.Value.TheVariants.{Null}
 use Rattle.dx_model.specs.Values.{Ascends, NullsAscend, RowsAscend, null_cmp, value_cmp}
@@ -15,7 +15,7 @@ use Rattle.dx_instance.specs.Shown.{AreBelow, NumberedInstance, PartsFit, shown_
 use Rattle.dx_instance.specs.Stored.{TableRows, facts, rows_of}
 use Rattle.dx_instance.proofs.ShownFacts.{is_shown, number_less, row_less}
 use Rattle.dx_instance.proofs.KeyFacts.{from_less}
-use Rattle.dx_ports.proofs.Members.{contains_from_in}
+use Rattle.dx_base.proofs.Members.{contains_from_in}
 use Rattle.dx_blocks.specs.Blocks.{AreBlocks}
 use Rattle.dx_blocks.specs.declared.numbered.NumberBlock.{NumberBlock}
 use Rattle.dx_blocks.specs.Numbered.{IsNullNumber, IsOfNumbers, null_under, shown_block}

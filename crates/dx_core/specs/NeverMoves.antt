@@ -1,6 +1,6 @@
 -- Facts that no endomorphism moves to a certain fact.
 use Rattle.std.specs.Prelude.{◌≡◌, ◌⊎◌, List}
-use Rattle.dx_ports.specs.Members.{◌∈◌}
+use Rattle.dx_base.specs.Members.{◌∈◌}
 use Rattle.dx_model.specs.declared.values.NullId.{NullId}
 use Rattle.dx_model.specs.declared.values.Value.{Value}
 use Rattle.dx_model.specs.declared.facts.Fact.{Fact}

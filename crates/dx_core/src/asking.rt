@@ -1,6 +1,6 @@
 // Rows of a block as atoms: a variable for each null of the block.
 ghost use Rattle.std.specs.Prelude.{◌≡◌, ◌<◌, ◌^◌, IfOk, None, length, replicate};
-ghost use Rattle.dx_ports.specs.Members.{Each};
+ghost use Rattle.dx_base.specs.Members.{Each};
 ghost use Rattle.dx_blocks.specs.Numbered.{IsRowIn};
 ghost use Rattle.dx_solver.specs.Questions.{FitsAtom};
 ghost use Rattle.dx_core.specs.Asking.{AreAtoms, AscendStrictly, IsAtomOf, IsTermOf};

@@ -1,6 +1,6 @@
 // Rows of a block that are images of its rows, if its nulls get numbers.
 ghost use Rattle.std.specs.Prelude.{◌≡◌, ◌<◌, ◌^◌, false, length, map};
-ghost use Rattle.dx_ports.specs.Members.{◌∈◌, Each};
+ghost use Rattle.dx_base.specs.Members.{◌∈◌, Each};
 ghost use Rattle.dx_model.specs.Instances.{fact_moved, given};
 ghost use Rattle.dx_blocks.specs.Numbered.{IsRowIn, fact_of};
 ghost use Rattle.dx_core.specs.Asking.{AscendStrictly, IsNumberAfter, pairs_by};

@@ -1,5 +1,5 @@
 // Rows of a block that are near one another since they share nulls. Which rows are near is a matter of time alone.
-ghost use Rattle.dx_ports.specs.Members.{Each};
+ghost use Rattle.dx_base.specs.Members.{Each};
 ghost use Rattle.dx_blocks.specs.Numbered.{IsRowIn};
 
 use dx_blocks::At;

@@ -3,9 +3,9 @@ use Rattle.std.proofs.Common.{◌≡◌, ◌<◌, ℕ, zero, suc, Bool, true, fa
 use Rattle.std.specs.Prelude.{◌&&◌, eqb, map, not}
 use Rattle.std.specs.List.{filter}
 use Rattle.std.proofs.lemmas.Bool.{and_parts, cases_Bool, eqb-true}
-use Rattle.dx_ports.specs.Members.{◌∈◌, ◌⊆◌, here, there}
-use Rattle.dx_ports.proofs.Members.{from_flat_map, from_map, in_left, in_right}
-use Rattle.dx_ports.proofs.Tests.{from_all, from_filter}
+use Rattle.dx_base.specs.Members.{◌∈◌, ◌⊆◌, here, there}
+use Rattle.dx_base.proofs.Members.{from_flat_map, from_map, in_left, in_right}
+use Rattle.dx_base.proofs.Tests.{from_all, from_filter}
 use Rattle.dx_model.specs.declared.rules.Cell.{Cell}
 use Rattle.dx_model.specs.declared.rules.Atom.{Atom}
 use Rattle.dx_model.specs.declared.rules.Rule.{Rule}

@@ -11,9 +11,9 @@ use Rattle.dx_model.specs.declared.rules.Atom.{Atom}
 use Rattle.dx_model.specs.declared.rules.Rule.{Rule}
 use Rattle.dx_model.specs.declared.covers.CellMap.{CellMap}
 use Rattle.dx_model.specs.declared.covers.Meeting.{Meeting}
-use Rattle.dx_ports.specs.Members.{◌∈◌, here, there, Each}
-use Rattle.dx_ports.proofs.Members.{in_left, in_right, from_append}
-use Rattle.dx_ports.proofs.Tests.{to_all, from_filter, from_all}
+use Rattle.dx_base.specs.Members.{◌∈◌, here, there, Each}
+use Rattle.dx_base.proofs.Members.{in_left, in_right, from_append}
+use Rattle.dx_base.proofs.Tests.{to_all, from_filter, from_all}
 use Rattle.dx_model.specs.Rules.{exported}
 use Rattle.dx_model.specs.Covers.{meet, meetings, choices, first_met, may_meet, same_cell, same_cells, is_cell_map, map_of}
 use Rattle.dx_model.proofs.Carrying.{same_cell-true, same_cell-refl}

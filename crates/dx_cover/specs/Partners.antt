@@ -1,6 +1,6 @@
 -- Atoms that a search can no longer choose.
 use Rattle.std.specs.Prelude.{◌≡◌, false, List, ◌++◌}
-use Rattle.dx_ports.specs.Members.{◌∈◌, ◌⊆◌, Each}
+use Rattle.dx_base.specs.Members.{◌∈◌, ◌⊆◌, Each}
 use Rattle.dx_model.specs.declared.rules.Cell.{Cell}
 use Rattle.dx_model.specs.declared.rules.Atom.{Atom}
 use Rattle.dx_model.specs.declared.covers.Meeting.{Meeting}

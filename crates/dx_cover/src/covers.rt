@@ -1,14 +1,14 @@
 // The used cell maps between the rules of a list, and the order of rules that they give.
 ghost use Rattle.std.specs.Prelude.{◌≡◌, ◌<◌, IfOk, List, ◌++◌, length, map};
-ghost use Rattle.dx_ports.specs.Members.{Each};
+ghost use Rattle.dx_base.specs.Members.{Each};
 ghost use Rattle.dx_model.specs.declared.rules.Rule.{Rule as RuleValue};
 ghost use Rattle.dx_model.specs.Covers.{before as is_before, rule_at, used_maps};
 ghost use Rattle.dx_model.specs.Fitting.{AgreeInWidths, IsRule, conclusions_of};
 ghost use Rattle.dx_cover.specs.Covering.{covers_of, maps_in};
 
 use crate::search::cover;
+use dx_base::Items;
 use dx_model::{CellMap, Rule};
-use dx_ports::Items;
 use std::alloc::{AllocError, Global};
 use std::marker::Model;
 
@@ -21,7 +21,7 @@ pub struct Covers {
 
 impl Model for Covers {
     ghost use Rattle.std.specs.Prelude.{◌≡◌, List, length};
-    ghost use Rattle.dx_ports.specs.Members.{Each};
+    ghost use Rattle.dx_base.specs.Members.{Each};
     ghost use Rattle.dx_model.specs.declared.covers.CellMap.{CellMap as Map};
 
     ghost Value = { List (List (List Map)) };

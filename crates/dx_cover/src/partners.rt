@@ -1,6 +1,6 @@
 // Atoms for which none of the others can be chosen, so that no cell map is left.
 ghost use Rattle.std.specs.Prelude.{◌≡◌, false, true, [], length};
-ghost use Rattle.dx_ports.specs.Members.{Each};
+ghost use Rattle.dx_base.specs.Members.{Each};
 ghost use Rattle.dx_model.specs.declared.rules.Rule.{Rule as RuleValue};
 ghost use Rattle.dx_cover.specs.Partners.{HasNoChoice, IsExcluded, NeverMeet};
 ghost use Rattle.dx_cover.specs.Search.{MeetInWidths, maps_under};

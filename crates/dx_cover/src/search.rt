@@ -12,8 +12,8 @@ use crate::partners::have_partners;
 use crate::problem::Problem;
 use crate::states::{Search, State, is_known, make_state, remember};
 use crate::variables::{existentials, exported};
+use dx_base::Items;
 use dx_model::{Atom, Cell, CellMap, Meeting, Rule};
-use dx_ports::Items;
 use std::alloc::{AllocError, Global};
 
 /// Whether a cell may meet another.

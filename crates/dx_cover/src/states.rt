@@ -5,8 +5,8 @@ ghost use Rattle.dx_model.specs.Covers.{same_cell};
 ghost use Rattle.dx_cover.specs.States.{counts, remembered, same_meetings, same_state, stands_in, state_of};
 
 use crate::cells::{copy_cell, is_same_cell};
+use dx_base::Items;
 use dx_model::{Atom, Cell, CellMap, Meeting};
-use dx_ports::Items;
 use std::alloc::{AllocError, Global};
 
 /// How many states are remembered.

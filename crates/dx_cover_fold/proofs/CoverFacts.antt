@@ -9,8 +9,8 @@ use Rattle.std.proofs.lemmas.List.Folds.{find-append}
 use Rattle.std.proofs.lemmas.List.Elements.{filter-append}
 use Rattle.std.proofs.lemmas.List.{append-nil, get_or_append_left, get_or_push, get_or_default, get_or-map, length-map, length_push, map_push, take_more}
 use Rattle.std.proofs.lemmas.Grind.{flat_map-append}
-use Rattle.dx_ports.specs.Members.{Each}
-use Rattle.dx_ports.proofs.Members.{in_at}
+use Rattle.dx_base.specs.Members.{Each}
+use Rattle.dx_base.proofs.Members.{in_at}
 use Rattle.dx_model.specs.declared.values.Value.{Value}
 use Rattle.dx_model.specs.declared.values.Value.TheVariants.{Const}
 use Rattle.dx_model.specs.declared.rules.Cell.{Cell}

@@ -10,8 +10,8 @@ use Rattle.std.specs.declared.cmp.Ordering.TheVariants.{Less, Equal, Greater}
 use Rattle.std.proofs.lemmas.Bool.{cases_Bool}
 use Rattle.std.proofs.lemmas.List.Folds.{find-append}
 use Rattle.std.proofs.lemmas.Cmp.{lists_total}
-use Rattle.dx_ports.proofs.Members.{map_agrees}
-use Rattle.dx_ports.proofs.Tests.{map_same, same_test, to_all, from_all}
+use Rattle.dx_base.proofs.Members.{map_agrees}
+use Rattle.dx_base.proofs.Tests.{map_same, same_test, to_all, from_all}
 use Rattle.dx_model.specs.declared.values.Value.{Value}
 use Rattle.dx_model.specs.Values.{row_cmp, value_cmp}
 use Rattle.dx_model.specs.Covers.{below, same_value}

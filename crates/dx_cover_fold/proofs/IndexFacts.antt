@@ -9,7 +9,7 @@ use Rattle.std.specs.Map.{lookup}
 use Rattle.std.proofs.lemmas.Bool.{cases_Bool, false≢true, true≢false}
 use Rattle.std.proofs.lemmas.List.Folds.{find-append}
 use Rattle.smallvec.specs.SmallVec.{SmallVec}
-use Rattle.dx_ports.proofs.Lists.{none_or_some}
+use Rattle.dx_base.proofs.Lists.{none_or_some}
 use Rattle.dx_model.specs.Covers.{below}
 
 -- a key is found by its numbers

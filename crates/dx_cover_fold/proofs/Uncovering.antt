@@ -1,9 +1,9 @@
 -- The cover fold makes the uncovered part of the canonical instance.
 use Rattle.std.proofs.Common.{◌≡◌, ℕ, List, [], ◌∷◌, refl, ◌∙◌, ap, subst, arith}
 use Rattle.std.specs.Prelude.{map}
-use Rattle.dx_ports.specs.Members.{◌∈◌, here, there}
-use Rattle.dx_ports.proofs.Members.{from_map, in_flat_map, same_equal, same_trans}
-use Rattle.dx_ports.proofs.Tests.{map_same}
+use Rattle.dx_base.specs.Members.{◌∈◌, here, there}
+use Rattle.dx_base.proofs.Members.{from_map, in_flat_map, same_equal, same_trans}
+use Rattle.dx_base.proofs.Tests.{map_same}
 use Rattle.dx_model.specs.declared.values.NullId.{NullId}
 use Rattle.dx_model.specs.declared.values.Value.{Value}
 use Rattle.dx_model.specs.declared.values.Value.TheVariants.{Null}

@@ -1,6 +1,6 @@
 -- What the cover fold makes of the canonical instance.
 use Rattle.std.specs.Prelude.{◌≡◌, ℕ, List, length}
-use Rattle.dx_ports.specs.Members.{◌≈◌, Each}
+use Rattle.dx_base.specs.Members.{◌≈◌, Each}
 use Rattle.dx_model.specs.declared.rules.Rule.{Rule}
 use Rattle.dx_model.specs.Values.{Rows}
 use Rattle.dx_model.specs.Instances.{image}

@@ -1,6 +1,6 @@
 -- Matches as rows of numbers, and the tuples for which the rows stand.
 use Rattle.std.specs.Prelude.{◌<◌, ◌-◌, ◌^◌, List, length, map}
-use Rattle.dx_ports.specs.Members.{Each}
+use Rattle.dx_base.specs.Members.{Each}
 use Rattle.dx_model.specs.declared.values.Value.{Value}
 use Rattle.dx_model.specs.Values.{Rows}
 use Rattle.dx_instance.specs.Cells.{NumberTable}

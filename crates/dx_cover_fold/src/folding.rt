@@ -1,6 +1,6 @@
 // The cover fold.
 ghost use Rattle.std.specs.Prelude.{◌≡◌, ◌<◌, ◌^◌, IfOk, length, map, suc};
-ghost use Rattle.dx_ports.specs.Members.{Each};
+ghost use Rattle.dx_base.specs.Members.{Each};
 ghost use Rattle.dx_model.specs.Rules.{exported as exported_of};
 ghost use Rattle.dx_model.specs.declared.rules.Cell.TheVariants.{Ex as ExCell};
 ghost use Rattle.dx_model.specs.Covers.{IsPlace, folded, least_cover, value_under};
@@ -16,10 +16,10 @@ use crate::found::Found;
 use crate::matched::Matched;
 use crate::nulls::place_nulls;
 use crate::rows_said::value_said;
+use dx_base::Items;
 use dx_cover::{Covers, exported};
 use dx_instance::{NullMap, Rows, Symbols};
 use dx_model::{Cell, NullId, Rule, Value};
-use dx_ports::Items;
 use std::alloc::{AllocError, Global};
 
 /// The exported variables of each rule.

@@ -1,6 +1,6 @@
 // The first places at which rows have their numbers.
 ghost use Rattle.std.specs.Prelude.{◌≡◌, IfOk};
-ghost use Rattle.dx_ports.specs.Members.{Each};
+ghost use Rattle.dx_base.specs.Members.{Each};
 ghost use Rattle.dx_cover_fold.specs.Codes.{RowHasColumn};
 ghost use Rattle.dx_cover_fold.specs.Found.{Indexes, first_row_of};
 

@@ -1,6 +1,6 @@
 // The matches of rules, lent as rows of numbers.
 ghost use Rattle.std.specs.Prelude.{◌≡◌, ◌↔◌, ◌<◌, ◌-◌, ◌+◌, ◌^◌, [], IsTrue, length, slice_index_or};
-ghost use Rattle.dx_ports.specs.Members.{◌∈◌, Each};
+ghost use Rattle.dx_base.specs.Members.{◌∈◌, Each};
 ghost use Rattle.dx_model.specs.declared.values.Value.TheVariants.{Const as ConstValue};
 ghost use Rattle.dx_model.specs.Covers.{tuple_at};
 ghost use Rattle.dx_cover_fold.specs.Matched.{matched_tuples};

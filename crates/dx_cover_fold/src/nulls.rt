@@ -1,6 +1,6 @@
 // The nulls of all places.
 ghost use Rattle.std.specs.Prelude.{◌≡◌, ◌↔◌, ◌⊎◌, ◌<◌, ◌≤◌, ◌^◌, IfOk, OnOk, length, max};
-ghost use Rattle.dx_ports.specs.Members.{◌∈◌};
+ghost use Rattle.dx_base.specs.Members.{◌∈◌};
 ghost use Rattle.dx_model.specs.declared.values.NullId.{NullId as AnyNull};
 ghost use Rattle.dx_model.specs.Rules.{cells_of};
 ghost use Rattle.dx_model.specs.Covers.{after_existential};

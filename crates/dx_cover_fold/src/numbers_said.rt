@@ -1,6 +1,6 @@
 // The numbers by which the values of a row are compared.
 ghost use Rattle.std.specs.Prelude.{◌≡◌, IfOk, length};
-ghost use Rattle.dx_ports.specs.Members.{Each};
+ghost use Rattle.dx_base.specs.Members.{Each};
 ghost use Rattle.dx_cover_fold.specs.Codes.{RowHasColumn, number_told, numbers_by};
 
 use crate::number_at::NumberAt;

@@ -6,8 +6,8 @@ ghost use Rattle.dx_cover_fold.specs.Codes.{IsPlanned};
 
 use crate::matched::Matched;
 use crate::number_at::NumberAt;
+use dx_base::Text;
 use dx_model::{Cell, Value};
-use dx_ports::Text;
 use std::alloc::{AllocError, Global};
 
 /// The column of a variable, or else the number of the empty text.

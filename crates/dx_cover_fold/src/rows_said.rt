@@ -6,8 +6,8 @@ ghost use Rattle.dx_instance.specs.Ranks.{text_of_value};
 ghost use Rattle.dx_joins.specs.Shown.{AreTexts, texts_of};
 
 use crate::matched::Matched;
+use dx_base::Text;
 use dx_model::{Cell, NullId, Value};
-use dx_ports::Text;
 use std::alloc::{AllocError, Global};
 
 /// A copy of the text of a value; the empty text for a null.

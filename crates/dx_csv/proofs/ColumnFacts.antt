@@ -5,8 +5,8 @@ use Rattle.std.proofs.Math.Nat.{mul-le-mul_right}
 use Rattle.std.proofs.lemmas.Bool.{cases_eq, cases_lt}
 use Rattle.std.proofs.lemmas.Nat.{mod-mul-add, mul-add-lt}
 use Rattle.std.proofs.lemmas.List.{ext_get_or, get_or-drop, get_or-map, get_or-replicate, get_or-set_other, get_or-set_same, get_or-take, length-drop, length-map, length-take-le}
-use Rattle.dx_ports.specs.Members.{Each, here, there}
-use Rattle.dx_ports.proofs.Members.{contains_from_in}
+use Rattle.dx_base.specs.Members.{Each, here, there}
+use Rattle.dx_base.proofs.Members.{contains_from_in}
 use Rattle.dx_model.specs.declared.values.Value.{Value}
 use Rattle.dx_model.specs.declared.values.Value.TheVariants.{Const}
 use Rattle.dx_instance.specs.Cells.{rows_of_cells}

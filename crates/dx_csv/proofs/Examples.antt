@@ -12,7 +12,7 @@ use Rattle.csv.specs.Machine.{next_record}
 use Rattle.csv.specs.Reading.{records_from, strip_bom}
 use Rattle.csv.specs.Records.{AllText}
 use Rattle.csv.specs.Writing.{escaped, fields_text, is_blank}
-use Rattle.dx_ports.specs.Members.{◌∈◌, ◌⊆◌, here, there}
+use Rattle.dx_base.specs.Members.{◌∈◌, ◌⊆◌, here, there}
 use Rattle.dx_model.specs.declared.values.NullId.{NullId}
 use Rattle.dx_model.specs.declared.values.Value.{Value}
 use Rattle.dx_model.specs.declared.values.Value.TheVariants.{Const, Null}

@@ -8,7 +8,7 @@ use Rattle.csv.specs.Machine.{next_record}
 use Rattle.csv.specs.Reading.{strip_bom, default_config, is_bom}
 use Rattle.csv.specs.Writing.{default_writer, row_text, read_back, field_text, fields_text, is_blank, needs_quotes, quoted}
 use Rattle.csv.specs.declared.parser.State.TheVariants as st
-use Rattle.dx_ports.specs.Members.{◌∈◌, here, there, Each}
+use Rattle.dx_base.specs.Members.{◌∈◌, here, there, Each}
 use Rattle.dx_model.specs.declared.values.Value.{Value}
 use Rattle.dx_model.specs.Values.{RowsAscend}
 use Rattle.dx_instance.specs.Cells.{NumberTable, numbers_at}

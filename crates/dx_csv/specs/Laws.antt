@@ -1,6 +1,6 @@
 -- The records of a table have one reading. Each law is a clause of a public function with an empty body.
 use Rattle.std.specs.Prelude.{◌≡◌, ◌⊎◌, ◌≤◌, ◌∷◌, ℕ, List, length}
-use Rattle.dx_ports.specs.Members.{◌≈◌, Each}
+use Rattle.dx_base.specs.Members.{◌≈◌, Each}
 use Rattle.dx_model.specs.declared.values.Value.{Value}
 use Rattle.dx_instance.specs.ValueText.{ValueFits}
 use Rattle.dx_csv.specs.declared.fault.RowKind.{RowKind}

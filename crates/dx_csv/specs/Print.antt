@@ -3,7 +3,7 @@ use Rattle.std.specs.Prelude.{◌≡◌, ℕ, List, [], ◌∷◌, map}
 use Rattle.std.specs.List.{flat_map}
 use Rattle.csv.specs.Reading.{strip_bom}
 use Rattle.csv.specs.Writing.{default_writer, row_text}
-use Rattle.dx_ports.specs.Members.{◌⊆◌}
+use Rattle.dx_base.specs.Members.{◌⊆◌}
 use Rattle.dx_model.specs.declared.values.Value.{Value}
 use Rattle.dx_model.specs.Values.{RowsAscend}
 use Rattle.dx_instance.specs.ValueText.{value_text_of}

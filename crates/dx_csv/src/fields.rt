@@ -3,7 +3,7 @@ ghost use Rattle.std.specs.Prelude.{◌≡◌, ◌<◌, ◌++◌, ◌∷◌, [],
 ghost use Rattle.csv.specs.Records.{prev};
 ghost use Rattle.dx_csv.specs.Fields.{HaveFields, HaveOpen, fields_in};
 
-use dx_ports::Text;
+use dx_base::Text;
 use std::alloc::{AllocError, Global};
 use std::marker::Model;
 use std::rc::Rc;

@@ -1,6 +1,6 @@
 // The fields of a table as rows of numbers.
 ghost use Rattle.std.specs.Prelude.{◌≡◌, ◌*◌, ◌+◌, ◌<◌, ◌^◌, ◌-◌, IfOk, IfErr, OnOk, length, map};
-ghost use Rattle.dx_ports.specs.Members.{Each};
+ghost use Rattle.dx_base.specs.Members.{Each};
 ghost use Rattle.dx_model.specs.declared.values.Value.TheVariants.{Const};
 ghost use Rattle.dx_instance.specs.Numbers.{Extends, value_of};
 ghost use Rattle.dx_instance.specs.Shown.{AreBelow, shown_row};
@@ -12,9 +12,9 @@ use crate::fault::RowFault;
 use crate::fields::Texts;
 use crate::load::read_fields;
 use crate::repeats::Repeats;
+use dx_base::Text;
 use dx_instance::{Gathered, Rows};
 use dx_model::Value;
-use dx_ports::Text;
 use std::alloc::{AllocError, Global};
 
 // Whether a column is used.

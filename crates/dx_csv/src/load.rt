@@ -10,8 +10,8 @@ use crate::fields::{Fields, Texts};
 use crate::plain::plain_fields;
 use crate::records::Records;
 use csv::ByteRecord;
+use dx_base::{Text, TextMade};
 use dx_model::{Row, Value};
-use dx_ports::{Text, TextMade};
 use std::alloc::{AllocError, Global};
 
 fn same_bytes(a: &[u8], b: &[u8]) -> bool

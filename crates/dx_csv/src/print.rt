@@ -7,8 +7,8 @@ ghost use Rattle.dx_csv.specs.Lines.{HavePrinted};
 ghost use Rattle.dx_csv.specs.Print.{HasNoMark, IsTableText, records_text, records_of_table};
 
 use crate::lines::Lines;
+use dx_base::{Items, Text};
 use dx_instance::{Instance, Numbers};
-use dx_ports::{Items, Text};
 use std::alloc::{AllocError, Global};
 
 // How many bytes a field of a table mostly takes.

@@ -1,7 +1,7 @@
 // Whether the texts of a column come more than once.
 ghost use Rattle.std.specs.Prelude.{◌≡◌, ◌<◌, ◌^◌, IsTrue};
 
-use dx_ports::Text;
+use dx_base::Text;
 
 // So many bytes decide a sort at once; longer texts that are equal take long to sort.
 const SHORT: usize = 8;

@@ -1,12 +1,12 @@
 -- The cells that a small script inserts, computed, and what is made of a limit.
 use Rattle.std.proofs.Common.{◌≡◌, ◌∙◌, ℕ, suc, List, [], ◌∷◌, Bool, true, false, codes, length, get_or, refl, sym, ap, arith}
 use Rattle.std.specs.Prelude.{map}
-use Rattle.dx_ports.specs.declared.file.Count.{Count}
-use Rattle.dx_ports.specs.declared.file.Count.TheVariants.{SourceCells, TargetCells}
-use Rattle.dx_ports.specs.declared.file.Limit.{Limit as Passed}
+use Rattle.dx_base.specs.declared.file.Count.{Count}
+use Rattle.dx_base.specs.declared.file.Count.TheVariants.{SourceCells, TargetCells}
+use Rattle.dx_base.specs.declared.file.Limit.{Limit as Passed}
 use Rattle.dx_model.specs.declared.facts.Fact.{Fact}
 use Rattle.dx_model.specs.Values.{Tuple, Rows}
-use Rattle.dx_ports.specs.Texts.{Text}
+use Rattle.dx_base.specs.Texts.{Text}
 use Rattle.dx_schema.specs.Names.{TableNames}
 use Rattle.dx_instance.specs.Stored.{facts, widths}
 use Rattle.dx_script.specs.declared.form.Out.TheVariants.{Column, Literal, Skolem}

@@ -3,14 +3,14 @@ use Rattle.std.proofs.Common.{◌≡◌, ◌⊎◌, ℕ, zero, suc, ◌<◌, Lis
 use Rattle.std.specs.Prelude.{map, flat_map, slice_index_or}
 use Rattle.std.proofs.lemmas.Bool.{cases_eq}
 use Rattle.std.proofs.lemmas.List.{get_or-map, length-map}
-use Rattle.dx_ports.specs.Members.{◌∈◌, here, there, Each}
-use Rattle.dx_ports.proofs.Members.{from_flat_map, from_map, in_flat_map, in_map}
-use Rattle.dx_ports.proofs.Tests.{map_same}
+use Rattle.dx_base.specs.Members.{◌∈◌, here, there, Each}
+use Rattle.dx_base.proofs.Members.{from_flat_map, from_map, in_flat_map, in_map}
+use Rattle.dx_base.proofs.Tests.{map_same}
 use Rattle.dx_model.specs.declared.facts.Fact.{Fact}
 use Rattle.dx_model.specs.declared.values.Value.{Value}
 use Rattle.dx_model.specs.declared.values.Value.TheVariants.{Const, Null}
 use Rattle.dx_model.specs.Values.{Tuple, tuple_cmp}
-use Rattle.dx_ports.specs.Texts.{Text}
+use Rattle.dx_base.specs.Texts.{Text}
 use Rattle.dx_model.proofs.Ascending.{from_in_order, in_in_order, in_order, in_order_ascends}
 use Rattle.dx_model.proofs.Decided.{same_list}
 use Rattle.dx_model.proofs.Orders.{tuple_exact, tuple_total}

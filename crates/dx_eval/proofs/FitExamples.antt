@@ -1,6 +1,6 @@
 -- What an evaluated script has to be: steps that do not fit, each for one reason alone.
 use Rattle.std.proofs.Common.{◌≡◌, List, [], ◌∷◌, false, codes, arith, refl}
-use Rattle.dx_ports.specs.Members.{here}
+use Rattle.dx_base.specs.Members.{here}
 use Rattle.dx_model.specs.declared.rules.Cell.TheVariants.{Lit, Var}
 use Rattle.dx_model.specs.declared.rules.Rule.{Rule}
 use Rattle.dx_schema.specs.Names.{TableNames}

@@ -6,14 +6,14 @@ use Rattle.std.proofs.lemmas.Bool.{cases_lt}
 use Rattle.std.proofs.lemmas.List.{take_all, append-nil, get_or-map, get_or_append_left, get_or_push, length-map, length-append, take_more, take-append-drop, map_push}
 use Rattle.std.proofs.lemmas.List.Concat.{flat_map-append}
 use Rattle.std.proofs.Math.Nat.{mul-le-mul_right, le-div_iff_mul-le}
-use Rattle.dx_ports.specs.Members.{◌∈◌, here, there, Distinct, Each}
-use Rattle.dx_ports.proofs.Members.{in_at, no_longer}
-use Rattle.dx_ports.specs.declared.file.Count.TheVariants.{TargetCells}
-use Rattle.dx_ports.proofs.Lists.{zip_push, zip_long, zip_at}
+use Rattle.dx_base.specs.Members.{◌∈◌, here, there, Distinct, Each}
+use Rattle.dx_base.proofs.Members.{in_at, no_longer}
+use Rattle.dx_base.specs.declared.file.Count.TheVariants.{TargetCells}
+use Rattle.dx_base.proofs.Lists.{zip_push, zip_long, zip_at}
 use Rattle.dx_model.specs.declared.facts.Fact.{Fact}
 use Rattle.dx_model.specs.declared.values.Value.{Value}
 use Rattle.dx_model.specs.Values.{Tuple, Rows}
-use Rattle.dx_ports.specs.Texts.{Text}
+use Rattle.dx_base.specs.Texts.{Text}
 use Rattle.dx_instance.specs.Cells.{NumberTable}
 use Rattle.dx_instance.specs.Numbers.{AreDistinctValues, Extends}
 use Rattle.dx_instance.proofs.ShownFacts.{extends_both}

@@ -5,8 +5,8 @@ use Rattle.std.proofs.lemmas.Bool.{cases_lt}
 use Rattle.std.proofs.lemmas.List.{append-nil, map_push, take_all, take_more}
 use Rattle.std.proofs.lemmas.List.Concat.{flat_map-append}
 use Rattle.std.proofs.lemmas.List.Sums.{sum_by_push}
-use Rattle.dx_ports.specs.Members.{◌∈◌, here, there}
-use Rattle.dx_ports.proofs.Members.{from_append, from_map, in_left, in_map, in_right}
+use Rattle.dx_base.specs.Members.{◌∈◌, here, there}
+use Rattle.dx_base.proofs.Members.{from_append, from_map, in_left, in_map, in_right}
 use Rattle.dx_script.specs.declared.form.Test.{Test}
 use Rattle.dx_script.specs.declared.form.Test.TheVariants.{Columns, Literal}
 use Rattle.std.specs.declared.alloc.AllocError.{AllocError}

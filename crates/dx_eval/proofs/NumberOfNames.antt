@@ -3,8 +3,8 @@ use Rattle.std.proofs.Common.{◌≡◌, ◌∙◌, ℕ, ◌<◌, List, [], ◌�
 use Rattle.std.specs.Prelude.{map, nat_eq, slice_index_or}
 use Rattle.std.specs.Cmp.Lexicographic.{pointwise}
 use Rattle.std.proofs.lemmas.Bool.{cases_Bool}
-use Rattle.dx_ports.specs.Members.{◌∈◌, here, there}
-use Rattle.dx_ports.specs.Texts.{Text}
+use Rattle.dx_base.specs.Members.{◌∈◌, here, there}
+use Rattle.dx_base.specs.Texts.{Text}
 use Rattle.dx_schema.specs.Forest.{Forest}
 use Rattle.dx_schema.specs.Tables.{AreTables, TableOf, number_of_name, schema_table, tables_of}
 use Rattle.dx_schema.specs.Names.{TableNames, table_names_of}

@@ -13,12 +13,12 @@ use Rattle.dx_model.specs.declared.rules.Cell.TheVariants.{Var, Ex, Lit}
 use Rattle.dx_model.specs.declared.rules.Atom.{Atom}
 use Rattle.dx_model.specs.declared.rules.Derived.{Derived}
 use Rattle.dx_model.specs.Values.{Conversions, Tuple}
-use Rattle.dx_ports.specs.Texts.{Text}
+use Rattle.dx_base.specs.Texts.{Text}
 use Rattle.dx_model.specs.Covers.{below}
 use Rattle.dx_model.specs.Rules.{after_cells, cells_of}
 use Rattle.dx_model.proofs.Lists.{from_below, in_below}
-use Rattle.dx_ports.specs.Members.{◌∈◌, here, there, Each}
-use Rattle.dx_ports.proofs.Members.{from_flat_map, from_map, in_at, in_flat_map, in_map}
+use Rattle.dx_base.specs.Members.{◌∈◌, here, there, Each}
+use Rattle.dx_base.proofs.Members.{from_flat_map, from_map, in_at, in_flat_map, in_map}
 use Rattle.dx_schema.specs.Forest.{Forest}
 use Rattle.dx_model.specs.Tables.{Table}
 use Rattle.dx_schema.specs.Tables.{TableOf, as_numbers, model_tables, schema_widths, tables_of}

@@ -4,14 +4,14 @@ use Rattle.std.specs.Prelude.{IsTrue, map, slice_index_or}
 use Rattle.std.specs.List.{AllZip}
 use Rattle.std.proofs.lemmas.List.{get_or-map, get_or_append_left, length-append}
 use Rattle.std.proofs.lemmas.List.Concat.{flat_map-append}
-use Rattle.dx_ports.specs.Members.{◌∈◌, here, Each}
-use Rattle.dx_ports.proofs.Members.{from_map, in_flat_map, in_left, in_map}
-use Rattle.dx_ports.proofs.Lists.{zip_long, zip_at}
+use Rattle.dx_base.specs.Members.{◌∈◌, here, Each}
+use Rattle.dx_base.proofs.Members.{from_map, in_flat_map, in_left, in_map}
+use Rattle.dx_base.proofs.Lists.{zip_long, zip_at}
 use Rattle.dx_model.specs.declared.facts.Fact.{Fact}
 use Rattle.dx_model.specs.declared.matches.Matches.{Matches}
 use Rattle.dx_model.specs.declared.values.Value.{Value}
 use Rattle.dx_model.specs.Values.{Tuple, Rows}
-use Rattle.dx_ports.specs.Texts.{Text}
+use Rattle.dx_base.specs.Texts.{Text}
 use Rattle.dx_schema.specs.Names.{TableNames}
 use Rattle.dx_instance.specs.Cells.{NumberTable}
 use Rattle.dx_instance.specs.Numbers.{ValuesAscend}

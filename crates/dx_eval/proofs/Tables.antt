@@ -4,13 +4,13 @@ use Rattle.std.specs.Prelude.{map}
 use Rattle.std.specs.List.{AllZip}
 use Rattle.std.proofs.lemmas.List.{append_assoc, take-append-drop, length-append, take_more}
 use Rattle.std.proofs.lemmas.List.Concat.{flat_map-append}
-use Rattle.dx_ports.specs.Members.{◌∈◌, here, there, Each}
-use Rattle.dx_ports.proofs.Members.{in_right}
-use Rattle.dx_ports.proofs.Lists.{zip_long, zip_grow, zip_at}
+use Rattle.dx_base.specs.Members.{◌∈◌, here, there, Each}
+use Rattle.dx_base.proofs.Members.{in_right}
+use Rattle.dx_base.proofs.Lists.{zip_long, zip_grow, zip_at}
 use Rattle.dx_model.specs.declared.facts.Fact.{Fact}
 use Rattle.dx_model.specs.declared.values.Value.{Value}
 use Rattle.dx_model.specs.Values.{Tuple, Rows}
-use Rattle.dx_ports.specs.Texts.{Text}
+use Rattle.dx_base.specs.Texts.{Text}
 use Rattle.dx_instance.specs.Cells.{NumberTable, NumbersAscend}
 use Rattle.dx_instance.specs.Numbers.{Extends, ValuesAscend}
 use Rattle.dx_joins.specs.Shown.{AreTexts, texts_of}

@@ -1,7 +1,7 @@
 -- What insert steps make of the places of a rule.
 use Rattle.std.specs.Prelude.{◌≡◌, ℕ, ◌<◌, IsTrue, cond, eqb, Bool, List, [], length, map, flat_map, slice_index, slice_index_or}
-use Rattle.dx_ports.specs.Members.{◌∈◌, Each}
-use Rattle.dx_ports.specs.Texts.{Text}
+use Rattle.dx_base.specs.Members.{◌∈◌, Each}
+use Rattle.dx_base.specs.Texts.{Text}
 use Rattle.dx_model.specs.declared.facts.Fact.{Fact}
 use Rattle.dx_model.specs.Values.{Tuple, Rows}
 use Rattle.dx_schema.specs.Names.{TableNames}

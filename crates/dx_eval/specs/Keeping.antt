@@ -1,6 +1,6 @@
 -- The places that keep steps leave, and the keys by which partners are looked up.
 use Rattle.std.specs.Prelude.{◌≡◌, ◌↔◌, ℕ, ◌<◌, List, [], ◌∷◌, length, map, flat_map, slice_index}
-use Rattle.dx_ports.specs.Members.{◌∈◌, Each}
+use Rattle.dx_base.specs.Members.{◌∈◌, Each}
 use Rattle.dx_model.specs.declared.values.Value.{Value}
 use Rattle.dx_model.specs.Values.{Tuple, Rows}
 use Rattle.dx_model.specs.Covers.{tuple_at}

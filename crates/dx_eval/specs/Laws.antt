@@ -1,8 +1,8 @@
 -- What holds of runs of scripts.
 use Rattle.std.specs.Prelude.{◌≡◌, ◌⊎◌, ℕ, List, length, map}
-use Rattle.dx_ports.specs.Members.{◌≈◌}
-use Rattle.dx_ports.specs.declared.file.Count.TheVariants.{TargetCells}
-use Rattle.dx_ports.specs.Texts.{Text}
+use Rattle.dx_base.specs.Members.{◌≈◌}
+use Rattle.dx_base.specs.declared.file.Count.TheVariants.{TargetCells}
+use Rattle.dx_base.specs.Texts.{Text}
 use Rattle.dx_model.specs.declared.facts.Fact.{Fact}
 use Rattle.dx_model.specs.Values.{Tuple, Rows}
 use Rattle.dx_model.specs.Matches.{rows_of_matches}

@@ -1,7 +1,7 @@
 -- The cells of a match step as variables: cells that are to be equal have one variable.
 use Rattle.std.specs.Prelude.{◌≡◌, ◌⊎◌, ℕ, ◌<◌, ◌^◌, cond, eqb, List, [], length, map, sum, slice_index, slice_index_or}
-use Rattle.dx_ports.specs.Members.{Each}
-use Rattle.dx_ports.specs.Texts.{Text}
+use Rattle.dx_base.specs.Members.{Each}
+use Rattle.dx_base.specs.Texts.{Text}
 use Rattle.dx_model.specs.Values.{Tuple}
 use Rattle.dx_model.specs.Covers.{below}
 use Rattle.dx_schema.specs.Names.{TableNames}

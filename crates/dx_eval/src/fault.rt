@@ -2,7 +2,7 @@
 ghost use Rattle.std.specs.Prelude.{◌≡◌};
 ghost use Rattle.dx_eval.specs.declared.fault.EvalFault.TheVariants.{Memory};
 
-use dx_ports::Limit;
+use dx_base::Limit;
 use std::alloc::{AllocError, AllocFailed};
 use thiserror::Error;
 

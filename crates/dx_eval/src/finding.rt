@@ -1,7 +1,7 @@
 // The match tables of a script, within a limit on the cells that are inserted.
 ghost use Rattle.std.specs.Prelude.{◌≡◌, ◌↔◌, ◌<◌, ◌≤◌, ◌*◌, ◌^◌, ℕ, IfOk, IfErr, MatchOption, Some, length};
-ghost use Rattle.dx_ports.specs.declared.file.Count.TheVariants.{TargetCells};
-ghost use Rattle.dx_ports.specs.Members.{Each};
+ghost use Rattle.dx_base.specs.declared.file.Count.TheVariants.{TargetCells};
+ghost use Rattle.dx_base.specs.Members.{Each};
 ghost use Rattle.dx_schema.specs.Names.{table_names_of};
 ghost use Rattle.dx_funcs.specs.Names.{call_named};
 ghost use Rattle.dx_funcs.specs.Serving.{Serves, offered};
@@ -16,9 +16,9 @@ ghost use Rattle.dx_eval.specs.Finding.{AreFoundSteps, IsFoundUpTo, IsEvalRefusa
 use crate::fault::EvalFault;
 use crate::matching::step_rows;
 use crate::source::Source;
+use dx_base::{Count, Items, Limit, Text};
 use dx_funcs::Meaning;
 use dx_instance::{Rows, Symbols};
-use dx_ports::{Count, Items, Limit, Text};
 use dx_script::Step;
 use dx_tgd::Found;
 use std::alloc::{AllocError, Global};

@@ -1,7 +1,7 @@
 // What insert steps make of the places that keep steps leave.
 ghost use Rattle.std.specs.Prelude.{◌≡◌, ◌↔◌, ◌<◌, List, IfOk, OnOk, Bool, length, map};
-ghost use Rattle.dx_ports.specs.Members.{◌∈◌, Each};
-ghost use Rattle.dx_ports.specs.Texts.{Text as AnyText};
+ghost use Rattle.dx_base.specs.Members.{◌∈◌, Each};
+ghost use Rattle.dx_base.specs.Texts.{Text as AnyText};
 ghost use Rattle.dx_model.specs.declared.facts.Fact.{Fact as AnyFact};
 ghost use Rattle.dx_schema.specs.Names.{table_names_of};
 ghost use Rattle.dx_schema.specs.Tables.{schema_widths};

@@ -1,6 +1,6 @@
 // The places that keep steps leave.
 ghost use Rattle.std.specs.Prelude.{◌≡◌, ◌↔◌, ◌<◌, ℕ, List, IfOk, IsTrue, length};
-ghost use Rattle.dx_ports.specs.Members.{◌∈◌, Each};
+ghost use Rattle.dx_base.specs.Members.{◌∈◌, Each};
 ghost use Rattle.dx_model.specs.declared.values.Value.TheVariants.{Const};
 ghost use Rattle.dx_instance.specs.Numbers.{value_of};
 ghost use Rattle.dx_instance.specs.Cells.{NumbersAscend};
@@ -14,8 +14,8 @@ ghost use Rattle.dx_eval.specs.Keeping.{column_numbers, own_columns};
 
 use crate::keys::{columns_of_other, columns_of_own, gather, has_row, keys_of};
 use crate::rule_tables::RuleTables;
+use dx_base::Text;
 use dx_instance::{Rows, Symbols, Value};
-use dx_ports::Text;
 use dx_script::{Step, Test, Unless};
 use std::alloc::{AllocError, Global};
 

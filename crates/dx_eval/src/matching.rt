@@ -12,10 +12,10 @@ ghost use Rattle.dx_eval.specs.Query.{IsSelected};
 
 use crate::query::Query;
 use crate::source::Source;
+use dx_base::{Items, Text};
 use dx_funcs::Meaning;
 use dx_instance::{Rows, Symbols};
 use dx_joins::shown_rows;
-use dx_ports::{Items, Text};
 use dx_script::{Equal, Select};
 use std::alloc::{AllocError, Global};
 

@@ -1,13 +1,13 @@
 // Tables and columns by names that are there.
 ghost use Rattle.std.specs.Prelude.{◌≡◌, ◌<◌, ◌≤◌, length};
-ghost use Rattle.dx_ports.specs.declared.limits.TheConstants.{COLUMNS};
-ghost use Rattle.dx_ports.specs.Members.{◌∈◌};
+ghost use Rattle.dx_base.specs.declared.limits.TheConstants.{COLUMNS};
+ghost use Rattle.dx_base.specs.Members.{◌∈◌};
 ghost use Rattle.dx_schema.specs.Names.{table_names_of};
 ghost use Rattle.dx_schema.specs.Tables.{tables_of};
 ghost use Rattle.dx_script.specs.Names.{column_named, table_named, table_names, table_numbered};
 ghost use Rattle.dx_eval.specs.Variables.{width_named};
 
-use dx_ports::Text;
+use dx_base::Text;
 use dx_schema::Schema;
 
 /// The number of the table of this name.

@@ -1,6 +1,6 @@
 // A match step as a premise, derived variables and shown variables.
 ghost use Rattle.std.specs.Prelude.{◌≡◌, ◌<◌, ◌^◌, IfOk, map};
-ghost use Rattle.dx_ports.specs.Members.{◌∈◌, Each};
+ghost use Rattle.dx_base.specs.Members.{◌∈◌, Each};
 ghost use Rattle.dx_model.specs.declared.rules.Cell.TheVariants.{Var};
 ghost use Rattle.dx_schema.specs.Names.{table_names_of};
 ghost use Rattle.dx_funcs.specs.Names.{first_named};
@@ -12,9 +12,9 @@ ghost use Rattle.dx_eval.specs.Query.{IsQuery, alias_atoms, code_found, derived_
 
 use crate::names::table_number;
 use crate::variables::{Variables, variable_of_cell};
+use dx_base::{Items, Text};
 use dx_funcs::{Host, Meaning};
 use dx_model::{Atom, Cell, Derived};
-use dx_ports::{Items, Text};
 use dx_schema::Schema;
 use dx_script::{CellRef, Equal, Select};
 use std::alloc::{AllocError, Global};

@@ -1,6 +1,6 @@
 // The match tables of a script, at one of its rules.
 ghost use Rattle.std.specs.Prelude.{◌<◌, length};
-ghost use Rattle.dx_ports.specs.Members.{Each};
+ghost use Rattle.dx_base.specs.Members.{Each};
 ghost use Rattle.dx_joins.specs.Shown.{AreTexts};
 
 use dx_instance::{Rows, Symbols};

@@ -1,14 +1,14 @@
 // The cells of a match step as variables: cells that are to be equal have one variable.
 ghost use Rattle.std.specs.Prelude.{◌≡◌, ◌<◌, ◌^◌, ◌+◌, IfOk, map};
 ghost use Rattle.std.specs.List.{range_with_len};
-ghost use Rattle.dx_ports.specs.Members.{◌∈◌, Each};
+ghost use Rattle.dx_base.specs.Members.{◌∈◌, Each};
 ghost use Rattle.dx_schema.specs.Names.{table_names_of};
 ghost use Rattle.dx_script.specs.Fits.{CellFits, EqualFits};
 ghost use Rattle.dx_script.specs.Names.{table_names};
 ghost use Rattle.dx_eval.specs.Variables.{AreSeparate, AreVariables, AreWide, IsUnified, renamed, variable_of};
 
 use crate::names::{column_number, table_width};
-use dx_ports::{Items, Text};
+use dx_base::{Items, Text};
 use dx_schema::Schema;
 use dx_script::{CellRef, Equal};
 use std::alloc::{AllocError, Global};

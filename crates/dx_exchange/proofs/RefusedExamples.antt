@@ -1,6 +1,6 @@
 -- What is no exchange of two small rules, and what is no clash.
 use Rattle.std.proofs.Common.{◌≡◌, ℕ, List, [], ◌∷◌, codes, refl, sym, ◌∙◌, ap, subst, arith}
-use Rattle.dx_ports.specs.Members.{◌∈◌, ◌⊆◌, here, there}
+use Rattle.dx_base.specs.Members.{◌∈◌, ◌⊆◌, here, there}
 use Rattle.dx_model.specs.declared.values.NullId.{NullId}
 use Rattle.dx_model.specs.declared.values.Value.{Value}
 use Rattle.dx_model.specs.declared.values.Value.TheVariants.{Const, Null}

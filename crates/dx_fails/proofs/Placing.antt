@@ -1,8 +1,8 @@
 -- What a search of one table found, in the words of its schema.
 use Rattle.std.proofs.Common.{◌≡◌, ◌∙◌, ℕ, ◌<◌, ◌≤◌, ◌^◌, List, [], inl, inr, refl, sym, ap, subst, arith, length, map, get_or}
 use Rattle.std.proofs.lemmas.List.{get_or_default, length-append, length-map}
-use Rattle.dx_ports.specs.Members.{◌∈◌, Each}
-use Rattle.dx_ports.proofs.Members.{from_append, from_map, in_at, in_map, item_in}
+use Rattle.dx_base.specs.Members.{◌∈◌, Each}
+use Rattle.dx_base.proofs.Members.{from_append, from_map, in_at, in_map, item_in}
 use Rattle.dx_model.specs.declared.tables.Key.{Key}
 use Rattle.dx_model.specs.declared.tables.Link.{Link}
 use Rattle.dx_model.specs.Chase.{Break}

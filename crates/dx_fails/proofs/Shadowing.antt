@@ -3,8 +3,8 @@ use Rattle.std.proofs.Common.{◌≡◌, ◌∙◌, ℕ, ◌+◌, ◌<◌, ◌�
 use Rattle.std.specs.Prelude.{MatchBool, ◌⊎◌}
 use Rattle.std.proofs.lemmas.Bool.{cases_lt}
 use Rattle.std.proofs.lemmas.List.{length-append}
-use Rattle.dx_ports.specs.Members.{◌∈◌, here, there}
-use Rattle.dx_ports.proofs.Members.{from_append, in_left, in_right}
+use Rattle.dx_base.specs.Members.{◌∈◌, here, there}
+use Rattle.dx_base.proofs.Members.{from_append, in_left, in_right}
 use Rattle.dx_model.specs.declared.values.Value.{Value}
 use Rattle.dx_model.specs.Tables.{values_in}
 use Rattle.dx_instance.specs.Stored.{AddsRow, TableRows, rows_of, widths, without_rows}

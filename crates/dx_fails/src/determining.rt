@@ -19,7 +19,7 @@ pub(crate) struct Determines<'a> {
 /// # Errors
 ///
 /// `AllocError` if there is no memory.
-#[tactic(auto, using(dx_ports::proofs::Ranges::range_more))]
+#[tactic(auto, using(dx_base::proofs::Ranges::range_more))]
 pub(crate) fn all_columns(alloc: Global, width: u32) -> Result<Vec<u32>, AllocError>
     ensures { IfOk result (λ all. all.items ≡ range_with_len 0 width) }
 {

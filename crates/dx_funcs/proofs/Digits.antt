@@ -5,7 +5,7 @@ use Rattle.std.proofs.lemmas.List.{append-nil, take_all}
 use Rattle.std.proofs.lemmas.List.Elements.{filter_more}
 use Rattle.std.proofs.lemmas.Str.{encode_ascii}
 use Rattle.dx_funcs.specs.Shipped.{digits_of}
-use Rattle.dx_ports.specs.Texts.{Text}
+use Rattle.dx_base.specs.Texts.{Text}
 
 -- a digit is kept
 pub digit_kept : (text old new : Text) (i ch : ℕ) → i < length text → old ≡ digits_of (take i text) → is_ascii_digit (get_or text i 0) ≡ true

@@ -1,7 +1,7 @@
 -- What the shipped conversions give of some texts, and what lists of conversions and of row tests are not.
 use Rattle.std.proofs.Common.{◌≡◌, ◌∙◌, ℕ, true, false, List, [], ◌∷◌, Some, refl, ap, codes, arith}
 use Rattle.std.specs.Prelude.{◌≤◌, map}
-use Rattle.dx_ports.specs.Members.{Each, here, there}
+use Rattle.dx_base.specs.Members.{Each, here, there}
 use Rattle.dx_funcs.specs.declared.conversion.Conversion.{Conversion}
 use Rattle.dx_funcs.specs.declared.row_test.RowTest.{RowTest}
 use Rattle.dx_funcs.specs.Names.{TakesTexts, call_named, conversion_name, first_named}
@@ -109,6 +109,13 @@ four_texts = record { names = ((λ m. elim m [ ]), tt); codes = ((λ m. elim m [
 
 five_texts : ¬ IsOffer (conversion (codes "f") 0 5 ∷ [])
 five_texts h = let a = (h.arities (conversion (codes "f") 0 5) (here refl)).1 in omega (arith, a)
+
+-- no two conversions have one name, or one code
+one_name : ¬ IsOffer (conversion (codes "f") 0 1 ∷ conversion (codes "f") 1 1 ∷ [])
+one_name h = h.names.0 (here refl)
+
+one_code : ¬ IsOffer (conversion (codes "f") 0 1 ∷ conversion (codes "g") 0 1 ∷ [])
+one_code h = h.codes.0 (here refl)
 
 -- what is listed has this code, and takes so many texts
 one_listed : IsListed (conversion (codes "f") 7 1 ∷ []) 7 1

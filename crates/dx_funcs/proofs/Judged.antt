@@ -1,12 +1,12 @@
 -- Row tests that are found in a list, and that the shipped ones tell themselves apart.
 use Rattle.std.proofs.Common.{◌≡◌, ℕ, ◌<◌, ◌≤◌, List, [], ◌∷◌, length, get_or, take, map, arith, codes}
 use Rattle.std.proofs.lemmas.List.{take_all}
-use Rattle.dx_ports.specs.Members.{◌∈◌, here, there, Distinct, Each}
-use Rattle.dx_ports.proofs.Members.{in_at, in_map, from_map}
+use Rattle.dx_base.specs.Members.{◌∈◌, here, there, Distinct, Each}
+use Rattle.dx_base.proofs.Members.{in_at, in_map, from_map}
 use Rattle.dx_funcs.specs.declared.row_test.RowTest.{RowTest}
 use Rattle.dx_funcs.specs.RowTests.{AreTests}
 use Rattle.dx_funcs.specs.Shipped.{shipped_row_tests}
-use Rattle.dx_ports.specs.Texts.{Text}
+use Rattle.dx_base.specs.Texts.{Text}
 use Rattle.dx_funcs.proofs.Offered.{apart}
 
 -- the row test at a place is listed

@@ -2,11 +2,11 @@
 use Rattle.std.proofs.Common.{◌≡◌, ℕ, List, [], ◌∷◌, Some, None, Bool, true, false, cond, map, refl, sym, ap, ◌∙◌, nat_eq}
 use Rattle.std.specs.Cmp.Lexicographic.{pointwise, same_text, other_text}
 use Rattle.std.proofs.lemmas.Bool.{ne_eqb, eq-eqb}
-use Rattle.dx_ports.specs.Members.{◌∈◌, here, there, Distinct}
-use Rattle.dx_ports.proofs.Members.{in_map, from_map}
+use Rattle.dx_base.specs.Members.{◌∈◌, here, there, Distinct}
+use Rattle.dx_base.proofs.Members.{in_map, from_map}
 use Rattle.dx_funcs.specs.declared.conversion.Conversion.{Conversion}
 use Rattle.dx_funcs.specs.Names.{first_named, conversion_name, call_found}
-use Rattle.dx_ports.specs.Texts.{Text}
+use Rattle.dx_base.specs.Texts.{Text}
 use Rattle.dx_funcs.specs.Laws.{EachIsTold, CallsByNameAreByCode}
 use Rattle.dx_funcs.proofs.Offered.{one_name, one_code}
 

@@ -1,8 +1,8 @@
 -- Conversions that are found in a list, and that the shipped list is an offer.
 use Rattle.std.proofs.Common.{◌≡◌, ℕ, ◌<◌, ◌≤◌, List, [], ◌∷◌, length, get_or, take, map, sym, ap, ◌∙◌, arith, codes, inl, inr, ◌⊎◌}
 use Rattle.std.proofs.lemmas.List.{take_all}
-use Rattle.dx_ports.specs.Members.{◌∈◌, here, there, Distinct, Each}
-use Rattle.dx_ports.proofs.Members.{in_at, in_map, from_map}
+use Rattle.dx_base.specs.Members.{◌∈◌, here, there, Distinct, Each}
+use Rattle.dx_base.proofs.Members.{in_at, in_map, from_map}
 use Rattle.dx_funcs.specs.declared.conversion.Conversion.{Conversion}
 use Rattle.dx_funcs.specs.Offers.{IsOffer, IsListed}
 use Rattle.dx_funcs.specs.Shipped.{shipped_conversions}

@@ -7,7 +7,7 @@ use Rattle.std.proofs.lemmas.List.{reverse-append, reverse-reverse, take-append-
 use Rattle.std.proofs.lemmas.Bool.{eqb-true}
 use Rattle.std.proofs.lemmas.Str.{encode_ascii}
 use Rattle.dx_funcs.specs.Shipped.{space, without_spaces_in_front, without_spaces_at_the_end}
-use Rattle.dx_ports.specs.Texts.{Text}
+use Rattle.dx_base.specs.Texts.{Text}
 
 -- a space takes one byte
 one_byte : encode_utf8 space ≡ space ∷ []

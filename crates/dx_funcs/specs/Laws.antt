@@ -1,7 +1,7 @@
 -- What holds of each offer: its names and codes tell its conversions.
 use Rattle.std.specs.Prelude.{◌≡◌, ℕ, List, Some, map}
-use Rattle.dx_ports.specs.Members.{◌∈◌}
-use Rattle.dx_ports.specs.Texts.{Text}
+use Rattle.dx_base.specs.Members.{◌∈◌}
+use Rattle.dx_base.specs.Texts.{Text}
 use Rattle.dx_funcs.specs.declared.conversion.Conversion.{Conversion}
 use Rattle.dx_funcs.specs.Names.{call_named, conversion_name, first_named}
 use Rattle.dx_funcs.specs.Offers.{IsOffer}

@@ -1,7 +1,7 @@
 -- Conversions by their names and by their codes.
 use Rattle.std.specs.Prelude.{◌≡◌, ℕ, List, [], ◌∷◌, Option, Some, None, ◌==◌, cond, if◌then◌else◌, nat_eq, MatchOption}
 use Rattle.std.specs.Cmp.Lexicographic.{pointwise}
-use Rattle.dx_ports.specs.Texts.{Text}
+use Rattle.dx_base.specs.Texts.{Text}
 use Rattle.dx_funcs.specs.declared.conversion.Conversion.{Conversion}
 
 -- the first conversion of this name

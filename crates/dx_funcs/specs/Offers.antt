@@ -1,6 +1,6 @@
 -- Lists of conversions.
 use Rattle.std.specs.Prelude.{◌≡◌, ◌≤◌, ℕ, List, [], ◌∷◌, map}
-use Rattle.dx_ports.specs.Members.{◌∈◌, Distinct, Each}
+use Rattle.dx_base.specs.Members.{◌∈◌, Distinct, Each}
 use Rattle.dx_funcs.specs.declared.conversion.Conversion.{Conversion}
 use denote.Struct.Props as logic
 

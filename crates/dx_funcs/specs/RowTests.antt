@@ -1,7 +1,7 @@
 -- Lists of row tests.
 use Rattle.std.specs.Prelude.{List, map}
 use denote.Struct.Props as logic
-use Rattle.dx_ports.specs.Members.{Distinct}
+use Rattle.dx_base.specs.Members.{Distinct}
 use Rattle.dx_funcs.specs.declared.row_test.RowTest.{RowTest}
 use Rattle.dx_funcs.specs.Offers.{Distinct-prop}
 

@@ -2,7 +2,7 @@
 use Rattle.std.specs.Prelude.{ℕ, Bool, true, false, ◌&&◌, List, [], ◌∷◌, ◌++◌, ◌==◌, codes, filter, if◌then◌else◌, reverse}
 use Rattle.std.specs.List.{list_all}
 use Rattle.std.specs.Char.{is_ascii_digit}
-use Rattle.dx_ports.specs.Texts.{Text}
+use Rattle.dx_base.specs.Texts.{Text}
 use Rattle.dx_funcs.specs.declared.conversion.Conversion.{Conversion}
 use Rattle.dx_funcs.specs.declared.row_test.RowTest.{RowTest}
 

@@ -1,5 +1,5 @@
 // A conversion, as a list of conversions has it.
-use dx_ports::Text;
+use dx_base::Text;
 
 /// A conversion: its name, its code, and of how many texts it makes one.
 #[derive(Drop)]

@@ -1,12 +1,12 @@
 // A list of conversions, and the closure that computes them.
 ghost use Rattle.std.specs.Prelude.{◌≡◌, None, Some, IfOk, IfSome, IsUtf8, MatchOption, length, map};
-ghost use Rattle.dx_ports.specs.Members.{◌∈◌, Each};
+ghost use Rattle.dx_base.specs.Members.{◌∈◌, Each};
 ghost use Rattle.dx_funcs.specs.Names.{TakesTexts, call_named, conversion_name, first_named};
 ghost use Rattle.dx_funcs.specs.Offers.{IsOffer, IsOffer-prop, IsListed};
 
 use crate::conversion::Conversion;
 use crate::meaning::Meaning;
-use dx_ports::{Items, Text};
+use dx_base::{Items, Text};
 use std::alloc::AllocError;
 use std::marker::PhantomData;
 

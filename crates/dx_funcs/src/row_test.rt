@@ -1,5 +1,5 @@
 // A row test, as a list of row tests has it.
-use dx_ports::Text;
+use dx_base::Text;
 
 /// A row test: its name and its code.
 #[derive(Drop)]

@@ -1,11 +1,11 @@
 // A list of row tests, and the closure that decides them.
 ghost use Rattle.std.specs.Prelude.{◌≡◌, ◌↔◌, IfOk, IfSome, IsSome, map};
-ghost use Rattle.dx_ports.specs.Members.{◌∈◌};
+ghost use Rattle.dx_base.specs.Members.{◌∈◌};
 ghost use Rattle.dx_funcs.specs.RowTests.{AreTests, AreTests-prop};
 
 use crate::meaning::Meaning;
 use crate::row_test::RowTest;
-use dx_ports::{Items, Text};
+use dx_base::{Items, Text};
 use std::alloc::AllocError;
 use std::marker::PhantomData;
 

@@ -8,7 +8,7 @@ use crate::conversion::Conversion;
 use crate::meaning::Meaning;
 use crate::row_test::RowTest;
 use crate::steps::{digits, is_filled, is_numeric, pair, trim};
-use dx_ports::{Items, Text};
+use dx_base::{Items, Text};
 use std::alloc::{AllocError, Global};
 
 /// What the conversions and the row tests that come with the program mean.

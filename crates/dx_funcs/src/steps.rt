@@ -4,7 +4,7 @@ ghost use Rattle.std.specs.List.{list_all};
 ghost use Rattle.std.specs.Char.{is_ascii_digit};
 ghost use Rattle.dx_funcs.specs.Shipped.{digits_of, is_filled, is_numeric, paired, trimmed};
 
-use dx_ports::Text;
+use dx_base::Text;
 use std::alloc::{AllocError, Global};
 
 /// The text without the spaces at its front and its end.

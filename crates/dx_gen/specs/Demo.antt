@@ -1,7 +1,7 @@
 -- The demo files, by a number of employees.
 use Rattle.std.specs.Prelude.{ℕ, zero, suc, List, [], ◌∷◌, ◌++◌, ◌%◌, cond, eqb, codes, decimal}
-use Rattle.dx_ports.specs.Entries.{Entry}
-use Rattle.dx_ports.specs.Texts.{Text}
+use Rattle.dx_base.specs.Entries.{Entry}
+use Rattle.dx_base.specs.Texts.{Text}
 
 -- the texts of the numbers below n, one after the other
 abbrev pub each_below : (ℕ → Text) → ℕ → Text

@@ -1,11 +1,11 @@
 // The demo files.
 ghost use Rattle.std.specs.Prelude.{◌≡◌, ◌≤◌, IfOk, string_bytes};
-ghost use Rattle.dx_ports.specs.Entries.{entries_of, entry_of};
+ghost use Rattle.dx_base.specs.Entries.{entries_of, entry_of};
 ghost use Rattle.dx_gen.specs.Demo.{demo};
 
 use crate::mapping::mapping_text;
 use crate::rows::{dept_text, emp_text, phone_text};
-use dx_ports::{File, Text};
+use dx_base::{File, Text};
 use std::alloc::{AllocError, Global};
 
 /// The most employees of a demo.

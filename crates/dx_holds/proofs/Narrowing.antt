@@ -6,15 +6,15 @@ use Rattle.std.proofs.lemmas.Bool.{cases_eq, cases_lt, false≢true}
 use Rattle.std.proofs.lemmas.List.{take_more, map-append, take_all, take-map, length-append, length-map, append-nil, same_from_push, get_or-map}
 use Rattle.std.proofs.lemmas.List.FromFn.{length-range_with_len}
 use Rattle.std.proofs.Math.Seq.{take-append_seam}
-use Rattle.dx_ports.specs.Members.{◌∈◌, Distinct, Each, here, there, IsPrefix}
-use Rattle.dx_ports.proofs.Members.{from_append, from_map, in_at, in_flat_map, in_left, in_right, distinct_more, no_longer}
-use Rattle.dx_ports.proofs.Ranges.{to_range}
+use Rattle.dx_base.specs.Members.{◌∈◌, Distinct, Each, here, there, IsPrefix}
+use Rattle.dx_base.proofs.Members.{from_append, from_map, in_at, in_flat_map, in_left, in_right, distinct_more, no_longer}
+use Rattle.dx_base.proofs.Ranges.{to_range}
 use Rattle.dx_model.specs.declared.values.Value.{Value}
 use Rattle.dx_model.specs.declared.values.Value.TheVariants.{Const}
 use Rattle.dx_model.specs.declared.rules.Atom.{Atom}
 use Rattle.dx_model.specs.declared.rules.Cell.{Cell}
 use Rattle.dx_model.specs.declared.rules.Cell.TheVariants.{Ex}
-use Rattle.dx_ports.specs.Texts.{Text}
+use Rattle.dx_base.specs.Texts.{Text}
 use Rattle.dx_model.specs.Rules.{cell_value, cells_of}
 use Rattle.dx_instance.specs.Stored.{TableRows, rows_of, table_at}
 use Rattle.dx_instance.specs.Places.{IsFirstWith, HasValues, row_at, value_at}

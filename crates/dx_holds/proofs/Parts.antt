@@ -3,14 +3,14 @@ use Rattle.std.proofs.Common.{◌≡◌, ◌∙◌, ℕ, ◌+◌, ◌<◌, ◌�
 use Rattle.std.specs.Prelude.{map, ◌↔◌, cond, eqb, Bool, true, false, IfSome, IsTrue, MatchBool, Option, None, Some}
 use Rattle.std.proofs.lemmas.Bool.{cases_Bool, cases_eq, cases_lt, eqb-true, eq-eqb, false≢true, ne_eqb}
 use Rattle.std.proofs.lemmas.List.{map-append, length-append, get_or_default}
-use Rattle.dx_ports.specs.Members.{◌∈◌, Distinct, Each, here, there, IsPrefix}
-use Rattle.dx_ports.proofs.Members.{contains_from_in, from_append, in_at, in_left, in_map, in_right, distinct_more}
+use Rattle.dx_base.specs.Members.{◌∈◌, Distinct, Each, here, there, IsPrefix}
+use Rattle.dx_base.proofs.Members.{contains_from_in, from_append, in_at, in_left, in_map, in_right, distinct_more}
 use Rattle.dx_model.specs.declared.values.Value.{Value}
 use Rattle.dx_model.specs.declared.values.Value.TheVariants.{Const}
 use Rattle.dx_model.specs.declared.facts.Fact.{Fact}
 use Rattle.dx_model.specs.declared.rules.Atom.{Atom}
 use Rattle.dx_model.specs.declared.rules.Cell.TheVariants.{Ex}
-use Rattle.dx_ports.specs.Texts.{Text}
+use Rattle.dx_base.specs.Texts.{Text}
 use Rattle.dx_model.specs.Rules.{cell_value, fact_of_atom, atom_at}
 use Rattle.dx_model.proofs.Deciding.{cells_with}
 use Rattle.dx_instance.specs.Stored.{TableRows, facts, rows_of}

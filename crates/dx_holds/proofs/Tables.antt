@@ -4,8 +4,8 @@ use Rattle.std.specs.Prelude.{map}
 use Rattle.std.specs.List.{range_with_len}
 use Rattle.std.proofs.lemmas.Bool.{cases_lt}
 use Rattle.std.proofs.lemmas.List.{length-map, get_or-map, get_or_default}
-use Rattle.dx_ports.specs.Members.{◌∈◌, Distinct, Each}
-use Rattle.dx_ports.proofs.Members.{in_at, in_left, in_map, in_right, from_append, from_map, contains_from_in}
+use Rattle.dx_base.specs.Members.{◌∈◌, Distinct, Each}
+use Rattle.dx_base.proofs.Members.{in_at, in_left, in_map, in_right, from_append, from_map, contains_from_in}
 use Rattle.dx_model.specs.declared.values.Value.{Value}
 use Rattle.dx_model.specs.declared.values.Value.TheVariants.{Const}
 use Rattle.dx_model.specs.declared.tables.Key.{Key}

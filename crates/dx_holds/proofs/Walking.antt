@@ -3,14 +3,14 @@ use Rattle.std.proofs.Common.{◌≡◌, ◌∙◌, ℕ, zero, suc, ◌+◌, ◌
 use Rattle.std.specs.Prelude.{None, Some}
 use Rattle.std.proofs.lemmas.Bool.{ne_eqb, eq-eqb}
 use Rattle.std.proofs.lemmas.List.{drop_more, take_more, take-append-drop}
-use Rattle.dx_ports.specs.Members.{◌∈◌, Each, here, there}
-use Rattle.dx_ports.proofs.Members.{from_append, in_at, in_right}
-use Rattle.dx_ports.proofs.Lists.{nothing_left}
+use Rattle.dx_base.specs.Members.{◌∈◌, Each, here, there}
+use Rattle.dx_base.proofs.Members.{from_append, in_at, in_right}
+use Rattle.dx_base.proofs.Lists.{nothing_left}
 use Rattle.dx_model.specs.declared.rules.Atom.{Atom}
 use Rattle.dx_model.specs.declared.rules.Cell.TheVariants.{Var}
 use Rattle.dx_model.specs.Rules.{Increase, cells_of, text_of, variables}
 use Rattle.dx_model.specs.Values.{Tuple}
-use Rattle.dx_ports.specs.Texts.{Text}
+use Rattle.dx_base.specs.Texts.{Text}
 use Rattle.dx_model.proofs.Canonical.{exported_exactly}
 use Rattle.dx_holds.specs.Least.{IsLeast}
 

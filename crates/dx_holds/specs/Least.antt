@@ -1,6 +1,6 @@
 -- The least variable of cells from a number on.
 use Rattle.std.specs.Prelude.{ℕ, ◌<◌, ◌≤◌, List, Option, MatchOption}
-use Rattle.dx_ports.specs.Members.{◌∈◌}
+use Rattle.dx_base.specs.Members.{◌∈◌}
 use Rattle.dx_model.specs.declared.rules.Cell.{Cell}
 use Rattle.dx_model.specs.declared.rules.Cell.TheVariants.{Var}
 

@@ -1,8 +1,8 @@
 -- A question as a whole: whether atoms, with texts for their variables, can be facts of a target.
 use Rattle.std.specs.Prelude.{◌≡◌, ℕ, ◌<◌, ◌≤◌, List, Vec, Bool, MatchBool, length, vec_capacity}
 use Rattle.std.specs.declared.alloc.Global.{Global}
-use Rattle.dx_ports.specs.Members.{◌∈◌, Each}
-use Rattle.dx_ports.specs.Texts.{Text}
+use Rattle.dx_base.specs.Members.{◌∈◌, Each}
+use Rattle.dx_base.specs.Texts.{Text}
 use Rattle.dx_model.specs.declared.values.Value.{Value}
 use Rattle.dx_model.specs.declared.rules.Atom.{Atom}
 use Rattle.dx_model.specs.declared.rules.Cell.{Cell}

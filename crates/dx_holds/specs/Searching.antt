@@ -1,8 +1,8 @@
 -- A search for values of existential variables.
 use Rattle.std.specs.Prelude.{◌≡◌, ◌↔◌, ℕ, ◌<◌, ◌≤◌, List, Vec, Option, Some, None, drop, length, map, vec_capacity}
 use Rattle.std.specs.declared.alloc.Global.{Global}
-use Rattle.dx_ports.specs.Members.{◌∈◌, Distinct, Each, IsPrefix}
-use Rattle.dx_ports.specs.Texts.{Text}
+use Rattle.dx_base.specs.Members.{◌∈◌, Distinct, Each, IsPrefix}
+use Rattle.dx_base.specs.Texts.{Text}
 use Rattle.dx_model.specs.declared.values.Value.{Value}
 use Rattle.dx_model.specs.declared.facts.Fact.{Fact}
 use Rattle.dx_model.specs.declared.rules.Atom.{Atom}

@@ -1,6 +1,6 @@
 // Rows that have the same values in columns.
 ghost use Rattle.std.specs.Prelude.{◌<◌, ℕ, length};
-ghost use Rattle.dx_ports.specs.Members.{◌∈◌};
+ghost use Rattle.dx_base.specs.Members.{◌∈◌};
 ghost use Rattle.dx_instance.specs.Stored.{rows_of, table_at};
 
 use dx_instance::Instance;

@@ -1,6 +1,6 @@
 // Whether links hold.
 ghost use Rattle.std.specs.Prelude.{◌≡◌, ◌↔◌, ◌<◌, IsTrue, length};
-ghost use Rattle.dx_ports.specs.Members.{Each};
+ghost use Rattle.dx_base.specs.Members.{Each};
 ghost use Rattle.dx_model.specs.Tables.{LinksHold};
 ghost use Rattle.dx_schema.specs.Tables.{model_tables, schema_widths, schema_table};
 ghost use Rattle.dx_instance.specs.Stored.{facts, table_at, widths};

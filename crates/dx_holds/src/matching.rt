@@ -1,6 +1,6 @@
 // Cells that hold the values of existential variables, and the rows that atoms can be.
 ghost use Rattle.std.specs.Prelude.{◌≡◌, ◌↔◌, ◌<◌, ◌+◌, ◌^◌, [], ◌∷◌, ℕ, IsTrue, IfSome, MatchOption, length, vec_capacity};
-ghost use Rattle.dx_ports.specs.Members.{◌∈◌};
+ghost use Rattle.dx_base.specs.Members.{◌∈◌};
 ghost use Rattle.dx_model.specs.declared.values.Value.{Value as AnyValue};
 ghost use Rattle.dx_model.specs.declared.values.Value.TheVariants.{Const};
 ghost use Rattle.dx_model.specs.declared.rules.Cell.TheVariants.{Ex, Var};
@@ -12,9 +12,9 @@ ghost use Rattle.dx_holds.specs.Questions.{FindsRow, HasValue, IsNextMatch, Nowh
 
 use crate::question::Question;
 use crate::texts::text_for;
+use dx_base::Text;
 use dx_instance::Instance;
 use dx_model::{Atom, Cell, Value, copy_value};
-use dx_ports::Text;
 use std::slice::from_ref;
 
 /// An existential variable, and a cell that holds its value.

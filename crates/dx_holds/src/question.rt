@@ -1,9 +1,9 @@
 // What a search is asked.
 ghost use Rattle.dx_holds.specs.Searching.{AtomsFitInstance};
 
+use dx_base::Text;
 use dx_instance::Instance;
 use dx_model::Atom;
-use dx_ports::Text;
 
 /// What is asked: whether atoms, with texts for their variables, can be facts of an instance.
 #[derive(Clone, Copy)]

@@ -1,6 +1,6 @@
 // Room for a search, reserved before it.
 ghost use Rattle.std.specs.Prelude.{◌≡◌, ◌↔◌, ◌<◌, ◌≤◌, ℕ, IfOk, IsTrue, length, vec_capacity};
-ghost use Rattle.dx_ports.specs.Members.{◌∈◌, Each};
+ghost use Rattle.dx_base.specs.Members.{◌∈◌, Each};
 ghost use Rattle.dx_model.specs.declared.rules.Cell.TheVariants.{Ex};
 ghost use Rattle.dx_model.specs.Rules.{PlacesSatisfied, cells_of, exported};
 ghost use Rattle.dx_model.specs.Fitting.{AtomsFitWidths};

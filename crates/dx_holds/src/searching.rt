@@ -1,6 +1,6 @@
 // A search for values of existential variables, part by part.
 ghost use Rattle.std.specs.Prelude.{◌≡◌, ◌↔◌, ◌<◌, ◌≤◌, ℕ, IsTrue, IfSome, MatchBool, MatchOption, length, vec_capacity};
-ghost use Rattle.dx_ports.specs.Members.{◌∈◌, IsPrefix};
+ghost use Rattle.dx_base.specs.Members.{◌∈◌, IsPrefix};
 ghost use Rattle.dx_model.specs.declared.rules.Cell.TheVariants.{Ex};
 ghost use Rattle.dx_holds.specs.Searching.{HasRoomForAtoms, IsAtomWanted, NoneLeft, found_variables};
 ghost use Rattle.dx_holds.specs.Questions.{AreDone, RestFails};

@@ -1,14 +1,14 @@
 // The texts of variables. A tuple has a text for each variable of the atoms, ascending.
 ghost use Rattle.std.specs.Prelude.{◌≡◌, [], ◌∷◌, ◌++◌, List, length};
-ghost use Rattle.dx_ports.specs.Members.{◌∈◌};
+ghost use Rattle.dx_base.specs.Members.{◌∈◌};
 ghost use Rattle.dx_model.specs.declared.rules.Cell.{Cell as AnyCell};
 ghost use Rattle.dx_model.specs.declared.rules.Cell.TheVariants.{Var};
 ghost use Rattle.dx_model.specs.Rules.{cells_of, variables};
 ghost use Rattle.dx_holds.specs.Least.{IsLeast};
 ghost use Rattle.dx_holds.specs.Searching.{texts};
 
+use dx_base::Text;
 use dx_model::{Atom, Cell};
-use dx_ports::Text;
 
 /// The lesser of two variables, of which only one that is at least `from` counts.
 fn lesser(least: Option<u32>, variable: u32, from: u64) -> Option<u32>

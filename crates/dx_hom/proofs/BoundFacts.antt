@@ -6,8 +6,8 @@ use Rattle.std.specs.Option.{option_to_list, unwrap_or}
 use Rattle.std.proofs.lemmas.Bool.{cases_Bool, cases_lt, eqb-true}
 use Rattle.std.proofs.lemmas.List.{length-append, length-map, length-set, length-replicate, map-append, get_or_append_left, get_or_default}
 use Rattle.std.proofs.lemmas.List.{get_or-map, get_or_push, get_or-set_same, get_or-set_other}
-use Rattle.dx_ports.specs.Members.{◌∈◌}
-use Rattle.dx_ports.proofs.Members.{contains_from_in, from_map}
+use Rattle.dx_base.specs.Members.{◌∈◌}
+use Rattle.dx_base.proofs.Members.{contains_from_in, from_map}
 use Rattle.dx_model.specs.declared.values.NullId.{NullId}
 use Rattle.dx_instance.specs.Chains.{last_code}
 use Rattle.dx_instance.proofs.ChainFacts.{last_after, last_front, last_hits, last_most}

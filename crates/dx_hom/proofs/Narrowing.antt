@@ -7,13 +7,13 @@ use Rattle.std.proofs.lemmas.List.{take_more, map-append, take_all, take-map, le
 use Rattle.dx_model.specs.declared.values.NullId.{NullId}
 use Rattle.dx_model.specs.declared.values.Value.{Value}
 use Rattle.dx_instance.specs.NullMaps.{ByNull}
-use Rattle.dx_ports.specs.Members.{◌∈◌, here, there, ◌⊆◌, IsPrefix}
+use Rattle.dx_base.specs.Members.{◌∈◌, here, there, ◌⊆◌, IsPrefix}
 use Rattle.dx_model.specs.Instances.{moved, nulls_in}
-use Rattle.dx_ports.proofs.Members.{in_left, in_map, in_right, from_append, distinct_more}
+use Rattle.dx_base.proofs.Members.{in_left, in_map, in_right, from_append, distinct_more}
 use Rattle.dx_hom.specs.declared.matching.Found.{Found}
 use Rattle.dx_instance.specs.Stored.{TableRows}
 use Rattle.dx_hom.specs.Narrowing.{found_nulls, null_value, GivesCell, IsNullCell, AtMost, Allows, IsGood, Narrows, RulesOut}
-use Rattle.dx_ports.specs.Members.{Distinct}
+use Rattle.dx_base.specs.Members.{Distinct}
 use Rattle.dx_model.proofs.Reduction.{nulls_append}
 
 pub narrower : {X : Type 0} (xs ys : List X) (n : ℕ) → ys ⊆ xs → AtMost xs n → AtMost ys n

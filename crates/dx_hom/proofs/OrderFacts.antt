@@ -7,8 +7,8 @@ use Rattle.std.specs.List.Sorted.{IsPermutation}
 use Rattle.std.proofs.lemmas.Bool.{cases_lt}
 use Rattle.std.proofs.lemmas.List.{length-append, map-append, take-set-le, take_all, take_more, get_or_default}
 use Rattle.std.proofs.lemmas.List.Sorted.{Contains-permutation, IsPermutation-sym}
-use Rattle.dx_ports.specs.Members.{◌∈◌, ◌≈◌, here, there}
-use Rattle.dx_ports.proofs.Members.{contains_from_in, from_append, from_map, in_at, in_from_contains, in_left, in_map, in_right}
+use Rattle.dx_base.specs.Members.{◌∈◌, ◌≈◌, here, there}
+use Rattle.dx_base.proofs.Members.{contains_from_in, from_append, from_map, in_at, in_from_contains, in_left, in_map, in_right}
 use Rattle.dx_model.specs.declared.facts.Fact.{Fact}
 use Rattle.dx_hom.specs.Orders.{IsOrder, IsReordered, fact_in}
 

@@ -5,9 +5,9 @@ use Rattle.std.proofs.Math.ListN.{set}
 use Rattle.std.specs.Prelude.{◌↔◌, IsTrue, Option, Some, None, map}
 use Rattle.std.specs.FinMap as finite
 use Rattle.std.proofs.lemmas.List.{drop_more, get_or-map, map-set, take_more, take_all}
-use Rattle.dx_ports.specs.Members.{Each}
-use Rattle.dx_ports.proofs.Members.{in_at}
-use Rattle.dx_ports.proofs.Lists.{drop_past}
+use Rattle.dx_base.specs.Members.{Each}
+use Rattle.dx_base.proofs.Members.{in_at}
+use Rattle.dx_base.proofs.Lists.{drop_past}
 use Rattle.dx_model.specs.declared.values.NullId.{NullId}
 use Rattle.dx_model.specs.declared.values.Value.{Value}
 use Rattle.dx_model.specs.Instances.{given, same_null}

@@ -5,8 +5,8 @@ use Rattle.std.specs.FinMap as finite
 use Rattle.std.specs.Bool.{OnTrue}
 use Rattle.std.proofs.lemmas.Bool.{cases_Bool, false≢true}
 use Rattle.std.proofs.lemmas.List.{get_or_default}
-use Rattle.dx_ports.specs.Members.{◌∈◌, Distinct, here, there}
-use Rattle.dx_ports.proofs.Members.{contains_from_in, from_map, in_at, in_map}
+use Rattle.dx_base.specs.Members.{◌∈◌, Distinct, here, there}
+use Rattle.dx_base.proofs.Members.{contains_from_in, from_map, in_at, in_map}
 use Rattle.dx_model.specs.declared.values.NullId.{NullId}
 use Rattle.dx_model.specs.declared.values.Value.{Value}
 use Rattle.dx_model.specs.declared.values.Value.TheVariants.{Null}

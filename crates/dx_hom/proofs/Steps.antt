@@ -14,8 +14,8 @@ use Rattle.dx_model.specs.Instances.{moved, fact_moved, values, nulls_in}
 use Rattle.dx_instance.specs.NullMaps.{ByNull}
 use Rattle.dx_instance.specs.Places.{row_at, fact_at}
 use Rattle.dx_instance.specs.Stored.{TableRows, rows_of}
-use Rattle.dx_ports.specs.Members.{◌∈◌, ◌⊆◌, ◌≈◌, here, there, IsPrefix}
-use Rattle.dx_ports.proofs.Members.{in_left, in_right, from_append, in_flat_map, from_flat_map}
+use Rattle.dx_base.specs.Members.{◌∈◌, ◌⊆◌, ◌≈◌, here, there, IsPrefix}
+use Rattle.dx_base.proofs.Members.{in_left, in_right, from_append, in_flat_map, from_flat_map}
 use Rattle.dx_model.proofs.Reduction.{in_nulls, from_nulls, nulls_append}
 use Rattle.dx_hom.specs.declared.matching.Found.{Found}
 use Rattle.dx_hom.specs.declared.searching.Step.{Step}

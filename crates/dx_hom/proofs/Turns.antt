@@ -2,7 +2,7 @@
 use Rattle.std.proofs.Common.{◌≡◌, ◌∙◌, ℕ, ◌<◌, ◌≤◌, ◌+◌, ◌^◌, List, [], ◌∷◌, ◌++◌, sym, ap, arith, length, get_or, take}
 use Rattle.std.specs.Prelude.{Bool, Option}
 use Rattle.std.proofs.lemmas.List.{length-append, nil_from_length}
-use Rattle.dx_ports.specs.Members.{◌∈◌}
+use Rattle.dx_base.specs.Members.{◌∈◌}
 use Rattle.dx_model.specs.declared.facts.Fact.{Fact}
 use Rattle.dx_model.specs.Instances.{nulls_in}
 use Rattle.dx_instance.specs.NullMaps.{ByNull}

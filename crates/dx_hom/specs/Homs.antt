@@ -1,7 +1,7 @@
 -- The homomorphism that is sought, and what a search has found of it.
 use Rattle.std.specs.Prelude.{◌≡◌, ◌↔◌, List, map, Option, Some}
 use Rattle.std.specs.FinMap as finite
-use Rattle.dx_ports.specs.Members.{◌∈◌, Distinct, Each}
+use Rattle.dx_base.specs.Members.{◌∈◌, Distinct, Each}
 use Rattle.dx_model.specs.declared.values.NullId.{NullId}
 use Rattle.dx_model.specs.declared.values.Value.{Value}
 use Rattle.dx_model.specs.declared.values.Value.TheVariants.{Null}

@@ -1,7 +1,7 @@
 -- What is said of g by cells that hold its values.
 use Rattle.std.specs.Prelude.{◌≡◌, ◌↔◌, ℕ, ◌<◌, ◌≤◌, List, [], ◌∷◌, ◌++◌, length, map, Some, Bool, MatchBool}
 use Rattle.std.specs.FinMap as finite
-use Rattle.dx_ports.specs.Members.{◌∈◌, ◌⊆◌, Distinct, IsPrefix}
+use Rattle.dx_base.specs.Members.{◌∈◌, ◌⊆◌, Distinct, IsPrefix}
 use Rattle.dx_model.specs.declared.values.NullId.{NullId}
 use Rattle.dx_model.specs.declared.values.Value.{Value}
 use Rattle.dx_model.specs.Instances.{moved, nulls_in}

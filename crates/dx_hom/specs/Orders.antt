@@ -1,6 +1,6 @@
 -- The order in which facts are moved, by their places.
 use Rattle.std.specs.Prelude.{◌≡◌, ◌↔◌, ℕ, ◌<◌, List, [], length, slice_index_or, take}
-use Rattle.dx_ports.specs.Members.{◌∈◌, Each}
+use Rattle.dx_base.specs.Members.{◌∈◌, Each}
 use Rattle.dx_model.specs.declared.facts.Fact.{Fact}
 
 -- each number below n stands in it, and no other

@@ -1,6 +1,6 @@
 // Nulls that were found, looked up by buckets.
 ghost use Rattle.std.specs.Prelude.{◌≡◌, ◌<◌, ◌-◌, [], ◌∷◌, ◌++◌, IfOk, MatchOption, length, take};
-ghost use Rattle.dx_ports.specs.Members.{◌∈◌};
+ghost use Rattle.dx_base.specs.Members.{◌∈◌};
 ghost use Rattle.dx_hom.specs.Bound.{bucket, found_at};
 ghost use Rattle.dx_hom.specs.Narrowing.{found_nulls};
 

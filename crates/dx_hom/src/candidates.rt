@@ -1,6 +1,6 @@
 // Places of the instance that agree with a fact in each column that is known, and the fact that is best moved next.
 ghost use Rattle.std.specs.Prelude.{◌≡◌, ◌<◌, ◌≤◌, IfSome, length, slice_index};
-ghost use Rattle.dx_ports.specs.Members.{◌∈◌, Each};
+ghost use Rattle.dx_base.specs.Members.{◌∈◌, Each};
 ghost use Rattle.dx_model.specs.declared.facts.Fact.{Fact as FactRow};
 ghost use Rattle.dx_instance.specs.Stored.{table_at, HasTableIn};
 ghost use Rattle.dx_instance.specs.NullMaps.{ByNull};

@@ -1,7 +1,7 @@
 // A search for places of facts, in reserved room.
 ghost use Rattle.std.specs.Prelude.{◌≡◌, ◌↔◌, ◌<◌, ◌≤◌, ◌+◌, ◌^◌, [], IfOk, IfSome, IsTrue, length, vec_capacity};
 ghost use Rattle.std.specs.Option.{option_copied};
-ghost use Rattle.dx_ports.specs.Members.{◌∈◌, Each};
+ghost use Rattle.dx_base.specs.Members.{◌∈◌, Each};
 ghost use Rattle.dx_model.specs.Instances.{values, nulls_in};
 ghost use Rattle.dx_model.specs.declared.facts.Fact.{Fact as FactRow};
 ghost use Rattle.dx_instance.specs.Places.{row_at, fact_at};

@@ -6,17 +6,17 @@ use Rattle.std.proofs.lemmas.Bool.{true≢false}
 use Rattle.std.proofs.lemmas.List.{length-map, take_more}
 use Rattle.std.proofs.lemmas.Option.{none-some}
 use Rattle.std.specs.declared.alloc.AllocError.{AllocError}
-use Rattle.dx_ports.specs.Members.{◌∈◌, here, there, Each}
-use Rattle.dx_ports.proofs.Members.{from_flat_map, from_map, in_at, in_map}
+use Rattle.dx_base.specs.Members.{◌∈◌, here, there, Each}
+use Rattle.dx_base.proofs.Members.{from_flat_map, from_map, in_at, in_map}
 use Rattle.dx_model.specs.declared.values.Value.{Value}
 use Rattle.dx_model.specs.declared.rules.Cell.{Cell}
 use Rattle.dx_model.specs.declared.rules.Cell.TheVariants.{Var, Ex, Lit}
 use Rattle.dx_model.specs.declared.rules.Atom.{Atom}
 use Rattle.dx_model.specs.Fitting.{AtomsFitWidths}
 use Rattle.dx_model.specs.Rules.{cell_value, cells_of, fact_of_atom}
-use Rattle.dx_ports.specs.Texts.{Text}
-use Rattle.dx_ports.proofs.Lists.{to_zip, from_zip}
-use Rattle.dx_ports.proofs.Options.{nothing, none_known}
+use Rattle.dx_base.specs.Texts.{Text}
+use Rattle.dx_base.proofs.Lists.{to_zip, from_zip}
+use Rattle.dx_base.proofs.Options.{nothing, none_known}
 use Rattle.dx_instance.specs.Cells.{NumberTable}
 use Rattle.dx_instance.specs.Numbers.{AreDistinctValues, value_of}
 use Rattle.dx_instance.specs.Shown.{AreBelow, PartsFit, numbers_of_table, shown, shown_row, shown_tables}

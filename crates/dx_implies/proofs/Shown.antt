@@ -1,15 +1,15 @@
 -- The frozen premise of a rule and what others make of it: they satisfy the others, and the rule exactly if it follows.
 use Rattle.std.proofs.Common.{◌≡◌, ◌↔◌, ℕ, ◌<◌, ◌≤◌, Bool, true, false, List, [], ◌∷◌, refl, sym, ◌∙◌, ap, subst, arith}
 use Rattle.std.specs.Prelude.{IsTrue}
-use Rattle.dx_ports.specs.declared.file.Count.TheVariants.{FrozenCells}
-use Rattle.dx_ports.specs.declared.file.Limit.{Limit as LimitOf}
-use Rattle.dx_ports.specs.Members.{◌∈◌, ◌≈◌, here, there, Each}
-use Rattle.dx_ports.proofs.Members.{in_map}
+use Rattle.dx_base.specs.declared.file.Count.TheVariants.{FrozenCells}
+use Rattle.dx_base.specs.declared.file.Limit.{Limit as LimitOf}
+use Rattle.dx_base.specs.Members.{◌∈◌, ◌≈◌, here, there, Each}
+use Rattle.dx_base.proofs.Members.{in_map}
 use Rattle.dx_model.specs.declared.values.Value.{Value}
 use Rattle.dx_model.specs.declared.facts.Fact.{Fact}
 use Rattle.dx_model.specs.declared.rules.Rule.{Rule}
 use Rattle.dx_model.specs.Values.{Rows, Conversions}
-use Rattle.dx_ports.specs.Texts.{Text}
+use Rattle.dx_base.specs.Texts.{Text}
 use Rattle.dx_model.specs.Rules.{AreRows, canonical, premise_fact, fact_of_atom}
 use Rattle.dx_model.specs.Fitting.{AtomsFitWidths, IsRule, RuleFits}
 use Rattle.dx_model.specs.Following.{Follows, IsClean, frozen, frozen_text}

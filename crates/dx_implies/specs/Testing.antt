@@ -1,6 +1,6 @@
 -- Rules that are tested beside others.
 use Rattle.std.specs.Prelude.{◌≡◌, ℕ, List, []}
-use Rattle.dx_ports.specs.Members.{Each}
+use Rattle.dx_base.specs.Members.{Each}
 use Rattle.dx_model.specs.declared.rules.Derived.{Derived}
 use Rattle.dx_model.specs.declared.rules.Rule.{Rule}
 use Rattle.dx_model.specs.Fitting.{AtomsFitWidths, IsRule, RuleFits}

@@ -1,7 +1,7 @@
 // The conclusion of a rule as a question: whether its atoms are rows of an instance.
 ghost use Rattle.std.specs.Prelude.{◌<◌, ◌≤◌, ℕ, IfOk, MatchOption};
 ghost use Rattle.std.specs.List.{AllZip};
-ghost use Rattle.dx_ports.specs.Members.{◌∈◌, Each};
+ghost use Rattle.dx_base.specs.Members.{◌∈◌, Each};
 ghost use Rattle.dx_model.specs.Following.{frozen_text as frozen_text_of};
 ghost use Rattle.dx_model.specs.Rules.{cells_of};
 ghost use Rattle.dx_model.specs.declared.values.Value.TheVariants.{Const};
@@ -10,9 +10,9 @@ ghost use Rattle.dx_solver.specs.declared.atom.Term.TheVariants.{Variable};
 ghost use Rattle.dx_implies.specs.Asking.{HasNowhere, IsNowhere, SaysAtom, SaysCell, SaysText};
 
 use crate::freezing::frozen_text;
+use dx_base::Text;
 use dx_instance::Numbers;
 use dx_model::{Atom, Cell, Value};
-use dx_ports::Text;
 use dx_solver::{PatternAtom, Term, Terms};
 use std::alloc::{AllocError, Global};
 

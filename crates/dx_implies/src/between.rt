@@ -1,7 +1,7 @@
 // The schemas between which rules are tested, and how.
 ghost use Rattle.std.specs.Prelude.{◌<◌, ◌-◌, ◌^◌};
 
-use dx_ports::Text;
+use dx_base::Text;
 use dx_schema::Schema;
 
 /// The schemas between which rules are tested, and how.

@@ -1,6 +1,6 @@
 // Whether a rule follows from others.
 ghost use Rattle.std.specs.Prelude.{◌≡◌, ◌↔◌, ◌<◌, ◌≤◌, ◌-◌, ◌^◌, ◌∷◌, [], ℕ, IfErr, IfOk, IsTrue, None, OnOk, length, replicate};
-ghost use Rattle.dx_ports.specs.Members.{◌∈◌, ◌≈◌, Each};
+ghost use Rattle.dx_base.specs.Members.{◌∈◌, ◌≈◌, Each};
 ghost use Rattle.dx_model.specs.declared.values.Value.{Value as AnyValue};
 ghost use Rattle.dx_model.specs.declared.rules.Rule.{Rule as RuleOf};
 ghost use Rattle.dx_model.specs.Fitting.{AtomsFitWidths, RuleFits};
@@ -23,10 +23,10 @@ use crate::host::NoConversions;
 use crate::nearby::near_rules;
 use crate::prefixes::{marks, marks_in};
 use crate::refusing::told_as_frozen;
+use dx_base::{Items, Text};
 use dx_funcs::Host;
 use dx_instance::{Instance, Numbers};
 use dx_model::Rule;
-use dx_ports::{Items, Text};
 use dx_schema::Schema;
 use dx_solver::{PatternAtom, Taken, solve};
 use dx_tgd::{CanonFault, Made, canonical_plain};

@@ -1,6 +1,6 @@
 // What shows that a rule does not follow from others.
 ghost use Rattle.std.specs.Prelude.{◌<◌, ◌-◌, ◌^◌, ◌∷◌, IfErr, IfNone, IfOk, IfSome, OnOk, length};
-ghost use Rattle.dx_ports.specs.Members.{Each};
+ghost use Rattle.dx_base.specs.Members.{Each};
 ghost use Rattle.dx_model.specs.Following.{Follows};
 ghost use Rattle.dx_model.specs.Values.{Conversions};
 ghost use Rattle.dx_implies.specs.Frozen.{IsFrozenRefusal, PassesFrozen};

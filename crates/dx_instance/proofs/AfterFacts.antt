@@ -16,8 +16,8 @@ use Rattle.dx_model.specs.Instances.{fact_moved, given, image, moved, same_null}
 use Rattle.dx_model.specs.Values.{null_cmp}
 use Rattle.dx_model.proofs.Maps.{same_null-refl, same_null-true}
 use Rattle.dx_model.proofs.Orders.{null_total, null_exact}
-use Rattle.dx_ports.specs.Members.{◌∈◌, ◌⊆◌, ◌≈◌}
-use Rattle.dx_ports.proofs.Members.{in_map, from_map}
+use Rattle.dx_base.specs.Members.{◌∈◌, ◌⊆◌, ◌≈◌}
+use Rattle.dx_base.proofs.Members.{in_map, from_map}
 use Rattle.dx_instance.specs.NullMaps.{ByNull, becomes, entries_in, is_itself, IsAfter, map_of_entries, or_itself, pair_after, pairs_of, with_value}
 use Rattle.dx_instance.specs.Stored.{TableRows, facts, rows_of}
 use Rattle.dx_instance.proofs.StoredFacts.{fact_from_row, row_from_fact}

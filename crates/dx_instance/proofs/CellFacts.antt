@@ -8,8 +8,8 @@ use Rattle.std.proofs.lemmas.Bool.{cases_lt}
 use Rattle.std.proofs.lemmas.Cmp.{nat_list_cmp_total}
 use Rattle.std.proofs.lemmas.List.{ext_get_or, get_or-map, get_or-set_other, get_or-set_same, length-map, length-set, length-drop, length-take-le, get_or-take, get_or-drop, get_or_default, take-map, drop-map, take_more, drop-drop, take_all, take-append-le, drop-append-le, nil_from_length}
 use Rattle.std.proofs.lemmas.List.Quantifiers.{all_pairs_push}
-use Rattle.dx_ports.specs.Members.{◌∈◌, here, there, Each}
-use Rattle.dx_ports.proofs.Members.{from_append, in_at}
+use Rattle.dx_base.specs.Members.{◌∈◌, here, there, Each}
+use Rattle.dx_base.proofs.Members.{from_append, in_at}
 use Rattle.dx_instance.specs.Cells.{NumberTable, NumbersAscend, rows_of_cells, numbers_at}
 use Rattle.dx_instance.specs.Shown.{AreBelow, renumbered}
 use Rattle.dx_instance.proofs.TableFacts.{numbers_cmp}

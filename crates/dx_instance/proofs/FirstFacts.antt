@@ -8,8 +8,8 @@ use Rattle.dx_model.specs.declared.values.Value.{Value}
 use Rattle.dx_model.specs.declared.values.Value.TheVariants.{Const}
 use Rattle.dx_model.specs.Values.{value_cmp}
 use Rattle.dx_model.proofs.Orders.{value_total}
-use Rattle.dx_ports.specs.Members.{Each, ◌∈◌, here, there}
-use Rattle.dx_ports.proofs.Members.{contains_from_in, from_append, from_map, in_at}
+use Rattle.dx_base.specs.Members.{Each, ◌∈◌, here, there}
+use Rattle.dx_base.proofs.Members.{contains_from_in, from_append, from_map, in_at}
 use Rattle.dx_instance.specs.Numbers.{ValuesAscend, IsOrdering, value_of}
 use Rattle.dx_instance.specs.Keys.{AreSorted, IsKeyIn, IsRepeat, IsRise, NumbersAreKeyed, places_of}
 use Rattle.dx_instance.specs.Ranks.{AreFirstKeys, AreDistinct, AreRankFirsts, HasRank}

@@ -9,8 +9,8 @@ use Rattle.std.proofs.lemmas.Cmp.{nat_cmp_total, on_total, then_total}
 use Rattle.std.proofs.lemmas.List.{get_or_default, get_or_push, get_or_append_left, length_push}
 use Rattle.std.proofs.lemmas.List.MinMax.{ranks_by}
 use Rattle.std.proofs.lemmas.List.Sorted.{All-permutation, Contains-permutation, sorted_far}
-use Rattle.dx_ports.specs.Members.{Each}
-use Rattle.dx_ports.proofs.Ranges.{nat_self, nat_less}
+use Rattle.dx_base.specs.Members.{Each}
+use Rattle.dx_base.proofs.Ranges.{nat_self, nat_less}
 use Rattle.dx_instance.specs.Indexes.{IsColumnIndex, NoNumber, entry_at, number_in}
 use Rattle.dx_instance.specs.declared.column_index.ColumnIndex.{ColumnIndex}
 

@@ -15,8 +15,8 @@ use Rattle.dx_instance.specs.Cells.{AreInOrder, numbers_at}
 use Rattle.dx_instance.proofs.OrderFacts.{places_ordered}
 use Rattle.dx_instance.specs.Keys.{packed, AreSmall, DigitsFit, places_of, AreKeyed, RowsAreKeyed}
 use Rattle.dx_instance.specs.Shown.{AreBelow}
-use Rattle.dx_ports.specs.Members.{here, there}
-use Rattle.dx_ports.proofs.Ranges.{nat_self, nat_less}
+use Rattle.dx_base.specs.Members.{here, there}
+use Rattle.dx_base.proofs.Ranges.{nat_self, nat_less}
 use Rattle.dx_instance.proofs.TableFacts.{numbers_cmp, numbers_exact}
 
 pub from_less : (x y : ℕ) → nat_cmp x y ≡ Less → x < y

@@ -7,9 +7,9 @@ use Rattle.dx_model.specs.declared.values.Value.{Value}
 use Rattle.dx_model.specs.declared.facts.Fact.{Fact}
 use Rattle.dx_model.specs.Tables.{IsInstance, Table}
 use Rattle.dx_model.specs.Values.{FactsAscend, RowsAscend, fact_cmp}
-use Rattle.dx_ports.specs.Members.{◌∈◌, here, there, Each}
-use Rattle.dx_ports.proofs.Members.{from_append, from_map, in_at}
-use Rattle.dx_ports.proofs.Ranges.{nat_self, nat_less}
+use Rattle.dx_base.specs.Members.{◌∈◌, here, there, Each}
+use Rattle.dx_base.proofs.Members.{from_append, from_map, in_at}
+use Rattle.dx_base.proofs.Ranges.{nat_self, nat_less}
 use Rattle.dx_instance.specs.Stored.{TableRows, facts, facts_from, rows_of, table_at, widths}
 use Rattle.dx_instance.proofs.StoredFacts.{fact_table, from_facts, row_from_fact}
 

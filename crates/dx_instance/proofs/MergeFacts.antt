@@ -15,8 +15,8 @@ use Rattle.dx_model.specs.Instances.{given, same_null}
 use Rattle.dx_model.specs.Values.{null_cmp}
 use Rattle.dx_model.proofs.Maps.{same_null-refl, same_null-true}
 use Rattle.dx_model.proofs.Orders.{null_total, null_exact}
-use Rattle.dx_ports.specs.Members.{◌∈◌, Each, here, there}
-use Rattle.dx_ports.proofs.Members.{contains_from_in, from_append, in_left, in_right, in_at}
+use Rattle.dx_base.specs.Members.{◌∈◌, Each, here, there}
+use Rattle.dx_base.proofs.Members.{contains_from_in, from_append, in_left, in_right, in_at}
 use Rattle.dx_instance.specs.NullMaps.{IsMergeStep, NoPairIsItself, PairsAscend, entries_in, is_itself, with_proper}
 use Rattle.dx_instance.proofs.AfterFacts.{itself}
 

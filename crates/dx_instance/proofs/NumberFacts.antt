@@ -19,8 +19,8 @@ use Rattle.dx_model.specs.contracts.values.ValueOrd.TheImpl.{cmp-value}
 use Rattle.dx_model.specs.contracts.values.ValueEq.TheImpl.Laws.{laws-law}
 use Rattle.dx_model.specs.Values.{value_cmp}
 use Rattle.dx_model.proofs.Orders.{value_total, value_exact}
-use Rattle.dx_ports.specs.Members.{Each, ◌∈◌}
-use Rattle.dx_ports.proofs.Members.{contains_from_in, in_from_contains, from_append, in_at, in_left, in_right}
+use Rattle.dx_base.specs.Members.{Each, ◌∈◌}
+use Rattle.dx_base.proofs.Members.{contains_from_in, in_from_contains, from_append, in_at, in_left, in_right}
 use Rattle.dx_instance.specs.Numbers.{AreDistinctValues, Extends, ValuesAscend, value_of}
 use Rattle.dx_instance.proofs.Equal.{value_eq, value_eq-Decides}
 

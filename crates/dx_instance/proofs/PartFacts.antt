@@ -3,8 +3,8 @@ use Rattle.std.proofs.Common.{◌≡◌, ◌-◌, ◌<◌, ◌^◌, ◌++◌, �
 use Rattle.std.proofs.lemmas.List.{length-append, length-drop, nil_from_length, take_all}
 use Rattle.std.specs.Prelude.{Option}
 use Rattle.std.proofs.Common.{inl, inr}
-use Rattle.dx_ports.specs.Members.{◌∈◌, here, there, Each}
-use Rattle.dx_ports.proofs.Members.{from_append}
+use Rattle.dx_base.specs.Members.{◌∈◌, here, there, Each}
+use Rattle.dx_base.proofs.Members.{from_append}
 use Rattle.dx_instance.specs.Indexes.{IsColumnIndex, IsNextWithNumber}
 use Rattle.dx_instance.specs.Cells.{NumberTable, NumbersAscend, row_key, with_numbers}
 use Rattle.dx_instance.specs.Chains.{AreChains, AreTableParts}

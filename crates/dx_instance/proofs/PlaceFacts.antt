@@ -15,8 +15,8 @@ use Rattle.dx_instance.proofs.TableFacts.{stands}
 use Rattle.std.proofs.lemmas.Option.{slice_get-get_or}
 use Rattle.dx_model.specs.declared.values.Value.{Value}
 use Rattle.dx_model.specs.declared.values.Value.TheVariants.{Const}
-use Rattle.dx_ports.specs.Members.{◌∈◌, here, there}
-use Rattle.dx_ports.proofs.Members.{in_at, from_map, contains_from_in, from_append}
+use Rattle.dx_base.specs.Members.{◌∈◌, here, there}
+use Rattle.dx_base.proofs.Members.{in_at, from_map, contains_from_in, from_append}
 use Rattle.dx_model.proofs.Before.{same_value-refl, same_value-true}
 use Rattle.dx_instance.specs.Stored.{TableRows, table_at, rows_of, FitsInstance}
 use Rattle.dx_instance.specs.Numbers.{value_of}

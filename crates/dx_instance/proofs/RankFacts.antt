@@ -11,8 +11,8 @@ use Rattle.dx_model.specs.declared.values.Value.{Value}
 use Rattle.dx_model.specs.declared.values.Value.TheVariants.{Const, Null}
 use Rattle.dx_model.specs.Values.{value_cmp}
 use Rattle.dx_model.proofs.Orders.{value_total, value_exact}
-use Rattle.dx_ports.specs.Members.{◌∈◌}
-use Rattle.dx_ports.proofs.Members.{in_from_contains}
+use Rattle.dx_base.specs.Members.{◌∈◌}
+use Rattle.dx_base.proofs.Members.{in_from_contains}
 use Rattle.dx_instance.specs.Numbers.{AreDistinctValues, ValuesAscend, value_of}
 use Rattle.dx_instance.specs.Keys.{AreSecondsOrNone, AreSorted, IsKeyIn, IsKeyAndPlace, IsRepeat, IsRise, IsSmallValue, NumbersAreKeyed, ValuesAreKeyed, places_of, value_key}
 use Rattle.dx_instance.specs.Ranks.{AreLengths}

@@ -16,8 +16,8 @@ use Rattle.std.proofs.lemmas.List.Kept.{AllPairs-from_increasing, Contains-dedup
 use Rattle.std.proofs.lemmas.List.Sorted.{Contains-permutation, IsPermutation-sym}
 use Rattle.std.proofs.lemmas.Map.Keys.{IsStrictlyIncreasing-dedup}
 use Rattle.std.proofs.lemmas.Nat.{mod_low, mul-add-lt, pow-add, pow_pos, shr_high}
-use Rattle.dx_ports.specs.Members.{◌∈◌, ◌⊆◌, here, there, Each}
-use Rattle.dx_ports.proofs.Members.{contains_from_in, from_map, in_at, in_from_contains, in_map}
+use Rattle.dx_base.specs.Members.{◌∈◌, ◌⊆◌, here, there, Each}
+use Rattle.dx_base.proofs.Members.{contains_from_in, from_map, in_at, in_from_contains, in_map}
 use Rattle.dx_instance.specs.Cells.{IsOrderOf, NumberTable, NumbersAscend, rows_of_cells}
 use Rattle.dx_instance.specs.Keys.{HasBits, DigitsFit, packed, unpacked}
 use Rattle.dx_instance.specs.Shown.{AreBelow}

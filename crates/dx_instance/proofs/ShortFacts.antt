@@ -9,7 +9,7 @@ use Rattle.std.proofs.lemmas.List.{get_or_append_left, get_or_push, length_push}
 use Rattle.dx_model.specs.declared.values.Value.{Value}
 use Rattle.dx_model.specs.declared.values.Value.TheVariants.{Const, Null}
 use Rattle.dx_model.specs.Values.{value_cmp}
-use Rattle.dx_ports.proofs.Ranges.{nat_self}
+use Rattle.dx_base.proofs.Ranges.{nat_self}
 use Rattle.dx_instance.specs.Keys.{AreSmall, IsSmallValue, packed, value_key}
 use Rattle.dx_instance.specs.Numbers.{value_of}
 use Rattle.dx_instance.specs.Ranks.{AreLengths, HasBytes, IsLong, IsShortLength, text_of_value}

@@ -12,9 +12,9 @@ use Rattle.dx_model.specs.declared.values.Value.{Value}
 use Rattle.dx_model.specs.declared.values.Value.TheVariants.{Const}
 use Rattle.dx_model.specs.Values.{value_cmp, row_cmp}
 use Rattle.dx_model.proofs.Orders.{value_total}
-use Rattle.dx_ports.specs.Members.{◌∈◌, here, there, Each, Distinct}
-use Rattle.dx_ports.proofs.Members.{in_map, from_map, in_at, from_append, distinct_more}
-use Rattle.dx_ports.proofs.Ranges.{nat_self, nat_less}
+use Rattle.dx_base.specs.Members.{◌∈◌, here, there, Each, Distinct}
+use Rattle.dx_base.proofs.Members.{in_map, from_map, in_at, from_append, distinct_more}
+use Rattle.dx_base.proofs.Ranges.{nat_self, nat_less}
 use Rattle.dx_instance.specs.Stored.{TableRows, table_at, rows_of, without_rows, AddsRow, FitsTable, FitsInstance, with_row}
 use Rattle.dx_instance.specs.Numbers.{AreDistinctValues, Extends, IsOrdering, ValuesAscend, value_of}
 use Rattle.dx_instance.specs.Cells.{NumberTable, numbers_at, with_numbers}

@@ -14,8 +14,8 @@ use Rattle.std.proofs.lemmas.List.{length-append, get_or_append_left, get_or_pus
 use Rattle.std.proofs.lemmas.Slice.Zip.{AllZip-long}
 use Rattle.dx_model.specs.declared.values.Value.{Value}
 use Rattle.dx_model.specs.Values.{row_cmp, RowsAscend}
-use Rattle.dx_ports.specs.Members.{◌∈◌, ◌⊆◌, here, there, Each, Distinct}
-use Rattle.dx_ports.proofs.Members.{in_map, from_map, contains_from_in}
+use Rattle.dx_base.specs.Members.{◌∈◌, ◌⊆◌, here, there, Each, Distinct}
+use Rattle.dx_base.proofs.Members.{in_map, from_map, contains_from_in}
 use Rattle.dx_instance.specs.Stored.{TableRows, rows_of, table_at, widths, IsSorting}
 use Rattle.dx_instance.specs.Numbers.{AreDistinctValues, Extends, IsOrdering, ValuesAscend, value_of}
 use Rattle.dx_instance.specs.Cells.{IsPut, NumberTable, NumbersAscend}

@@ -12,8 +12,8 @@ use Rattle.std.proofs.lemmas.List.Filters.{dedup_is}
 use Rattle.std.proofs.lemmas.List.Kept.{IsStrictlySortedBy-dedup, Contains-dedup, Contains-from_dedup}
 use Rattle.std.proofs.lemmas.List.Sorted.{Contains-permutation, IsPermutation-sym}
 use Rattle.std.proofs.lemmas.Map.Lookups.{exact_unsigned}
-use Rattle.dx_ports.specs.Members.{◌≈◌, here, there, Each}
-use Rattle.dx_ports.proofs.Members.{contains_from_in, in_from_contains}
+use Rattle.dx_base.specs.Members.{◌≈◌, here, there, Each}
+use Rattle.dx_base.proofs.Members.{contains_from_in, in_from_contains}
 use Rattle.dx_model.specs.declared.facts.Fact.{Fact}
 use Rattle.dx_model.specs.contracts.facts.FactOrd.TheImpl.{cmp-value as fact_order}
 use Rattle.dx_model.specs.contracts.facts.FactOrd.TheImpl.Laws.{total-law as fact_order_total, matches_eq-law as fact_ties}

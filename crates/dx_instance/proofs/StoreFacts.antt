@@ -20,8 +20,8 @@ use Rattle.dx_model.specs.declared.facts.NullPair.{NullPair}
 use Rattle.dx_model.specs.Instances.{IsNullMap}
 use Rattle.dx_model.specs.Values.{null_cmp}
 use Rattle.dx_model.proofs.Orders.{null_total, null_exact}
-use Rattle.dx_ports.specs.Members.{Each, here, there}
-use Rattle.dx_ports.proofs.Members.{from_map, item_in}
+use Rattle.dx_base.specs.Members.{Each, here, there}
+use Rattle.dx_base.proofs.Members.{from_map, item_in}
 use Rattle.dx_instance.specs.NullMaps.{AreStored, ByNull, NoPairIsItself, NoneIsItself, PairsAscend, entries_in, is_itself, map_of_entries, pair_after, pairs_of, with_proper, with_value}
 use Rattle.dx_instance.proofs.NullFacts.{as_pairs, get_null, null_map_of, pair_of, pairs_stored}
 use Rattle.dx_instance.proofs.AfterFacts.{itself, tie}

@@ -5,8 +5,8 @@ use Rattle.std.proofs.lemmas.List.{length-set, get_or-set_same, get_or-set_other
 use Rattle.std.specs.declared.alloc.AllocError.{AllocError}
 use Rattle.dx_model.specs.declared.values.Value.{Value}
 use Rattle.dx_model.specs.declared.facts.Fact.{Fact}
-use Rattle.dx_ports.specs.Members.{◌∈◌, here, there, Each, ◌≈◌}
-use Rattle.dx_ports.proofs.Members.{in_map, from_map, in_left, in_right, from_append, in_at, distinct_more, same_sym}
+use Rattle.dx_base.specs.Members.{◌∈◌, here, there, Each, ◌≈◌}
+use Rattle.dx_base.proofs.Members.{in_map, from_map, in_left, in_right, from_append, in_at, distinct_more, same_sym}
 use Rattle.dx_instance.specs.Stored.{TableRows, table_at, rows_of, widths, facts_from, facts, without_rows, AddsRow, FitsTable, FitsInstance, with_row, IsSorting}
 
 abbrev no_table : TableRows

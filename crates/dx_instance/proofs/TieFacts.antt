@@ -19,7 +19,7 @@ use Rattle.dx_instance.specs.Numbers.{value_of}
 use Rattle.dx_instance.proofs.HalfFacts.{halves, small_halves}
 use Rattle.dx_instance.proofs.NumberFacts.{self_equal}
 use Rattle.dx_instance.proofs.ShortFacts.{lengths_rise, lengths_same, shorts_same}
-use Rattle.dx_ports.proofs.Ranges.{nat_less, nat_self}
+use Rattle.dx_base.proofs.Ranges.{nat_less, nat_self}
 use Rattle.dx_instance.proofs.KeyFacts.{IsKeyOf, by_key, numbers_first, rises}
 
 -- one second key more

@@ -5,7 +5,7 @@ use Rattle.std.specs.Ordering.{is_lt, nat_cmp}
 use Rattle.std.specs.Cmp.Lexicographic.{slice_cmp}
 use Rattle.std.specs.List.{AllPairs}
 use Rattle.std.specs.declared.cmp.Ordering.TheVariants.{Less}
-use Rattle.dx_ports.specs.Members.{◌∈◌, ◌⊆◌, Each}
+use Rattle.dx_base.specs.Members.{◌∈◌, ◌⊆◌, Each}
 
 -- a table of numbers: how many columns it has, and its rows
 pub record NumberTable : Type 0 where

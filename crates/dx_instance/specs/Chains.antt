@@ -2,7 +2,7 @@
 use Rattle.std.specs.Prelude.{◌≡◌, ℕ, zero, suc, ◌<◌, ◌≤◌, ◌^◌, map, take, drop, List, ◌==◌, length, nat_eq, slice_index, if◌then◌else◌}
 use Rattle.std.specs.Option.{unwrap_or}
 use Rattle.std.specs.HashMap.{get}
-use Rattle.dx_ports.specs.Members.{Each}
+use Rattle.dx_base.specs.Members.{Each}
 use Rattle.dx_instance.specs.Cells.{NumbersAscend, row_key}
 use Rattle.dx_instance.specs.Indexes.{IsColumnIndex}
 use Rattle.dx_instance.specs.declared.chains.Chains.{Chains}

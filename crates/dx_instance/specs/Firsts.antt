@@ -1,6 +1,6 @@
 -- The first rows that have the numbers of others in some columns.
 use Rattle.std.specs.Prelude.{◌≡◌, ℕ, ◌<◌, ◌≤◌, List, length, map, slice_index}
-use Rattle.dx_ports.specs.Members.{◌∈◌}
+use Rattle.dx_base.specs.Members.{◌∈◌}
 use Rattle.dx_instance.specs.Cells.{numbers_at}
 use Rattle.dx_instance.specs.Indexes.{number_in}
 use Rattle.dx_instance.specs.declared.firsts.Parts.{Parts}

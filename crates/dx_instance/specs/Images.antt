@@ -1,6 +1,6 @@
 -- Images of instances under null maps.
 use Rattle.std.specs.Prelude.{◌≡◌, ℕ, ◌<◌, List, length, slice_index}
-use Rattle.dx_ports.specs.Members.{◌≈◌}
+use Rattle.dx_base.specs.Members.{◌≈◌}
 use Rattle.dx_model.specs.declared.values.Value.{Value}
 use Rattle.dx_model.specs.Instances.{image, moved}
 use Rattle.dx_model.specs.Values.{RowsAscend}

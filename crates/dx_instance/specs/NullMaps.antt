@@ -3,7 +3,7 @@ use Rattle.std.specs.Prelude.{◌≡◌, ℕ, List, map, refl, Bool, false, if�
 use Rattle.std.specs.declared.cmp.Ordering.TheVariants.{Less}
 use Rattle.std.specs.FinMap as finite
 use Rattle.std.specs.Coded.{Coded, code_by, coded×, coded_ℕ}
-use Rattle.dx_ports.specs.Members.{Each, ◌∈◌, ◌⊆◌}
+use Rattle.dx_base.specs.Members.{Each, ◌∈◌, ◌⊆◌}
 use Rattle.dx_model.specs.declared.values.Value.TheVariants.{Const, Null}
 use Rattle.dx_model.specs.Instances.{given, moved, same_null}
 use Rattle.dx_model.specs.declared.values.NullId.{NullId}

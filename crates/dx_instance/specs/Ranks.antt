@@ -1,6 +1,6 @@
 -- Numbers and their places in a list, and the texts of values one after the other.
 use Rattle.std.specs.Prelude.{◌≡◌, ℕ, ◌+◌, ◌-◌, ◌<◌, ◌≤◌, List, [], ◌∷◌, ◌++◌, IsUtf8, drop, length, map, slice_index, slice_index_or, take}
-use Rattle.dx_ports.specs.Members.{Each}
+use Rattle.dx_base.specs.Members.{Each}
 use Rattle.dx_model.specs.declared.values.Value.{Value}
 use Rattle.dx_model.specs.declared.values.Value.TheVariants.{Const, Null}
 use Rattle.dx_instance.specs.Keys.{AreSecondsOrNone, NumbersAreKeyed, places_of}

@@ -1,6 +1,6 @@
 -- Tables of numbers, and the rows of values that they show.
 use Rattle.std.specs.Prelude.{◌≡◌, ℕ, ◌<◌, ◌≤◌, ◌^◌, ◌-◌, List, [], length, map, slice_index, slice_index_or}
-use Rattle.dx_ports.specs.Members.{Distinct, Each}
+use Rattle.dx_base.specs.Members.{Distinct, Each}
 use Rattle.dx_model.specs.declared.values.Value.{Value}
 use Rattle.dx_instance.specs.Stored.{TableRows}
 use Rattle.dx_instance.specs.Numbers.{AreDistinctValues, value_of}

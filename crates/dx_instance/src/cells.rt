@@ -1,7 +1,7 @@
 // Rows of numbers, one after the other.
 ghost use Rattle.std.specs.Prelude.{◌≡◌, ◌<◌, ◌≤◌, ◌-◌, ◌*◌, ◌^◌, ℕ, List, [], ◌∷◌, ◌++◌, IfOk, OnOk, OnErr, IsTrue, ◌↔◌, length, map};
 ghost use Rattle.std.specs.Bool.{OnTrue};
-ghost use Rattle.dx_ports.specs.Members.{Each};
+ghost use Rattle.dx_base.specs.Members.{Each};
 ghost use Rattle.dx_instance.specs.Chains.{AreChains};
 ghost use Rattle.dx_instance.specs.Cells.{AreInOrder, IsOrderOf, NumbersAscend, numbers_at, rows_of_cells, with_numbers};
 ghost use Rattle.dx_instance.specs.Keys.{HasBits, DigitsFit, RowsAreKeyed, packed, places_of, unpacked};

@@ -1,5 +1,5 @@
 // Facts in order.
-ghost use Rattle.dx_ports.specs.Members.{◌≈◌};
+ghost use Rattle.dx_base.specs.Members.{◌≈◌};
 ghost use Rattle.dx_model.specs.Values.{FactsAscend};
 
 use dx_model::Fact;

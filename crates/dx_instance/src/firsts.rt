@@ -1,6 +1,6 @@
 // The first rows that have the numbers of others in some columns.
 ghost use Rattle.std.specs.Prelude.{◌≡◌, ◌<◌, ◌+◌, ◌-◌, ◌^◌, [], ℕ, List, IfOk, OnOk, length, map, slice_index};
-ghost use Rattle.dx_ports.specs.Members.{Each};
+ghost use Rattle.dx_base.specs.Members.{Each};
 ghost use Rattle.dx_instance.specs.Firsts.{AreFirstParts, IsFirstOf, part_at};
 
 use crate::table::Table;

@@ -2,7 +2,7 @@
 ghost use Rattle.std.specs.Prelude.{◌≡◌, ◌↔◌, ◌<◌, ◌≤◌, ◌-◌, ◌^◌, ℕ, List, length, map, Some, slice_get, slice_index, IsTrue, IfOk, OnErr, IfSome, MatchBool};
 ghost use Rattle.std.specs.Bool.{OnTrue};
 ghost use Rattle.std.specs.List.{AllZip};
-ghost use Rattle.dx_ports.specs.Members.{Distinct, Each, ◌∈◌, ◌≈◌};
+ghost use Rattle.dx_base.specs.Members.{Distinct, Each, ◌∈◌, ◌≈◌};
 ghost use Rattle.dx_model.specs.Values.{FactsAscend, RowsAscend};
 ghost use Rattle.dx_instance.specs.Stored.{AddsRow, IsSorting, facts, rows_of, table_at, without_rows};
 ghost use Rattle.dx_instance.specs.Cells.{IsPut};

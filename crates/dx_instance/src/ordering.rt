@@ -1,7 +1,7 @@
 // Values put in order, their texts in one buffer.
 ghost use Rattle.std.specs.Prelude.{◌≡◌, ◌≤◌, ◌-◌, ◌<◌, ◌^◌, IfOk, IfSome, IsUtf8, OnOk, length, map, slice_index, string_bytes, take, drop, ◌++◌};
 ghost use Rattle.std.specs.Int.{to_be_bytes, w64};
-ghost use Rattle.dx_ports.specs.Members.{Each};
+ghost use Rattle.dx_base.specs.Members.{Each};
 ghost use Rattle.dx_model.specs.declared.values.Value.TheVariants.{Const};
 ghost use Rattle.dx_instance.specs.Keys.{AreSmall, IsKeyIn, IsSmallSecond, IsSmallValue, NumbersAreKeyed, ValuesAreKeyed, packed, places_of, second_key, value_key};
 ghost use Rattle.dx_instance.specs.Numbers.{IsOrdering, value_of};
@@ -12,8 +12,8 @@ use crate::layer::Layer;
 use crate::symbols::Symbols;
 use crate::ties::Ties;
 use crate::values::Values;
+use dx_base::Text;
 use dx_model::{Value, copy_value};
-use dx_ports::Text;
 use std::alloc::{AllocError, Global};
 use std::rc::Rc;
 

@@ -2,7 +2,7 @@
 ghost use Rattle.std.specs.Prelude.{◌≡◌, ◌<◌, ◌≤◌, ◌^◌, ℕ, [], ◌∷◌, ◌++◌, IfOk, IfSome, OnOk, OnErr, Some, length};
 ghost use Rattle.std.specs.Bool.{OnTrue};
 ghost use Rattle.std.specs.declared.cmp.Ordering.TheVariants.{Less};
-ghost use Rattle.dx_ports.specs.Members.{Each, ◌∈◌};
+ghost use Rattle.dx_base.specs.Members.{Each, ◌∈◌};
 ghost use Rattle.dx_model.specs.Values.{value_cmp};
 ghost use Rattle.dx_instance.specs.Numbers.{AreDistinctValues, Extends, IsConstant, IsNumberOf, IsOrdering, IsSomeNull, ValuesAscend, value_of};
 

@@ -1,7 +1,7 @@
 // A table of numbers: its first rows ascend and are found by binary search, those after them by their keys.
 ghost use Rattle.std.specs.Prelude.{◌≡◌, ◌≤◌, ◌<◌, ◌-◌, ◌^◌, [], IfOk, IfSome, OnErr, MatchBool, length, map, take, drop};
 ghost use Rattle.std.specs.Bool.{OnTrue};
-ghost use Rattle.dx_ports.specs.Members.{Each, ◌∈◌};
+ghost use Rattle.dx_base.specs.Members.{Each, ◌∈◌};
 ghost use Rattle.dx_instance.specs.Shown.{AreBelow, renumbered};
 ghost use Rattle.dx_instance.specs.Cells.{IsPlaceOf, IsPut, NumbersAscend, row_key, numbers_at, with_numbers};
 ghost use Rattle.dx_instance.specs.Chains.{AreChains};

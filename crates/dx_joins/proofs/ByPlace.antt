@@ -3,8 +3,8 @@ use Rattle.std.proofs.Common.{◌≡◌, ◌⊎◌, ◌∙◌, ◌<◌, ◌≤�
 use Rattle.std.specs.Prelude.{slice_index}
 use Rattle.std.proofs.lemmas.Bool.{cases_lt}
 use Rattle.std.proofs.lemmas.List.{get_or-map, get_or_default, length-map}
-use Rattle.dx_ports.specs.Members.{◌∈◌}
-use Rattle.dx_ports.proofs.Members.{in_at, contains_from_in}
+use Rattle.dx_base.specs.Members.{◌∈◌}
+use Rattle.dx_base.proofs.Members.{in_at, contains_from_in}
 use Rattle.dx_instance.specs.Cells.{row_key, numbers_at}
 use Rattle.dx_joins.specs.declared.plan.Plan.{Plan}
 use Rattle.dx_joins.specs.Collecting.{Collection, CollectsRows, MoreThan}

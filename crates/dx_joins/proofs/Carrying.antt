@@ -3,8 +3,8 @@ use Rattle.std.proofs.Common.{◌≡◌, ◌↔◌, ◌⊎◌, ◌∙◌, ◌<�
 use Rattle.std.specs.Prelude.{IfOk, IfSome, MatchOption}
 use Rattle.std.specs.declared.alloc.AllocError.{AllocError}
 use Rattle.std.proofs.lemmas.List.{length-append, drop_more}
-use Rattle.dx_ports.specs.Members.{◌∈◌, ◌⊆◌, here, there, Distinct}
-use Rattle.dx_ports.proofs.Members.{in_left, in_right, from_append}
+use Rattle.dx_base.specs.Members.{◌∈◌, ◌⊆◌, here, there, Distinct}
+use Rattle.dx_base.proofs.Members.{in_left, in_right, from_append}
 use Rattle.dx_instance.specs.Cells.{NumberTable}
 use Rattle.dx_instance.specs.Shown.{numbers_of_table}
 use Rattle.dx_joins.specs.declared.pattern.Pattern.{Pattern}

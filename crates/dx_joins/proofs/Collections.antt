@@ -3,8 +3,8 @@ use Rattle.std.proofs.Common.{◌≡◌, ◌↔◌, ◌⊎◌, ◌∙◌, ◌<�
 use Rattle.std.specs.Prelude.{nat_lt}
 use Rattle.std.proofs.lemmas.Bool.{ltb-true}
 use Rattle.std.proofs.lemmas.List.{length-take-le}
-use Rattle.dx_ports.specs.Members.{◌∈◌, ◌⊆◌, here, there}
-use Rattle.dx_ports.proofs.Members.{in_left, in_right, from_append}
+use Rattle.dx_base.specs.Members.{◌∈◌, ◌⊆◌, here, there}
+use Rattle.dx_base.proofs.Members.{in_left, in_right, from_append}
 use Rattle.dx_model.proofs.Lists.{from_take}
 use Rattle.dx_instance.specs.Cells.{NumberTable, with_numbers}
 use Rattle.dx_instance.proofs.SortFacts.{distinct_numbers}

@@ -4,8 +4,8 @@ use Rattle.std.specs.Prelude.{map}
 use Rattle.std.specs.List.{AllPairs}
 use Rattle.std.specs.declared.cmp.Ordering.TheVariants.{Less}
 use Rattle.std.proofs.lemmas.Cmp.{nat_list_cmp_total}
-use Rattle.dx_ports.specs.Members.{◌∈◌, Distinct, here, there}
-use Rattle.dx_ports.proofs.Members.{contains_from_in, from_append, from_map}
+use Rattle.dx_base.specs.Members.{◌∈◌, Distinct, here, there}
+use Rattle.dx_base.proofs.Members.{contains_from_in, from_append, from_map}
 use Rattle.dx_instance.proofs.TableFacts.{numbers_cmp}
 
 never_less : (x : List ℕ) → ¬ (numbers_cmp x x ≡ Less)

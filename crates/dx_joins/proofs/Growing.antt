@@ -7,14 +7,14 @@ use Rattle.std.proofs.lemmas.Bool.{cases_Bool, cases_lt, eqb-false}
 use Rattle.std.proofs.lemmas.List.{length-map, length-append, get_or_default, get_or-map, map-append, append_assoc, take_more}
 use Rattle.std.proofs.lemmas.Simd.{map-map}
 use Rattle.dx_joins.specs.Looking.{numbers_at_places}
-use Rattle.dx_ports.specs.Members.{◌∈◌, ◌⊆◌, here, there, Each}
-use Rattle.dx_ports.proofs.Members.{from_append, in_map, from_map, in_at, contains_from_in}
-use Rattle.dx_ports.proofs.Tests.{map_same}
+use Rattle.dx_base.specs.Members.{◌∈◌, ◌⊆◌, here, there, Each}
+use Rattle.dx_base.proofs.Members.{from_append, in_map, from_map, in_at, contains_from_in}
+use Rattle.dx_base.proofs.Tests.{map_same}
 use Rattle.dx_model.specs.declared.values.Value.{Value}
 use Rattle.dx_model.specs.declared.values.Value.TheVariants.{Const}
 use Rattle.dx_model.specs.declared.rules.Derived.{Derived}
 use Rattle.dx_model.specs.Values.{Conversions, Tuple}
-use Rattle.dx_ports.specs.Texts.{Text}
+use Rattle.dx_base.specs.Texts.{Text}
 use Rattle.dx_model.specs.Rules.{text_of}
 use Rattle.dx_instance.specs.Numbers.{AreDistinctValues, Extends, value_of}
 use Rattle.dx_instance.specs.Cells.{NumberTable, numbers_at}

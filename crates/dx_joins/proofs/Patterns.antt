@@ -4,9 +4,9 @@ use Rattle.std.specs.Prelude.{map}
 use Rattle.std.specs.List.{list_any}
 use Rattle.std.proofs.lemmas.Bool.{cases_Bool, eqb-true, eq-eqb, cond-true, cond-false}
 use Rattle.std.proofs.lemmas.List.{length-append, take_more, take_all, append-nil, append_assoc}
-use Rattle.dx_ports.specs.Members.{◌∈◌, ◌⊆◌, here, there, Each}
-use Rattle.dx_ports.proofs.Members.{in_left, in_right, from_append, in_flat_map, map_agrees, in_at, distinct_more}
-use Rattle.dx_ports.proofs.Tests.{map_same, to_any, from_any}
+use Rattle.dx_base.specs.Members.{◌∈◌, ◌⊆◌, here, there, Each}
+use Rattle.dx_base.proofs.Members.{in_left, in_right, from_append, in_flat_map, map_agrees, in_at, distinct_more}
+use Rattle.dx_base.proofs.Tests.{map_same, to_any, from_any}
 use Rattle.dx_instance.specs.Cells.{NumberTable}
 use Rattle.dx_joins.specs.declared.pattern.Pattern.{Pattern}
 use Rattle.dx_joins.specs.Joining.{MatchesPatterns, MatchesPattern, AreRowsWith, variables_of_patterns}

@@ -4,9 +4,9 @@ use Rattle.std.specs.Prelude.{map, slice_index}
 use Rattle.std.proofs.lemmas.Bool.{cases_Bool, eqb-true, eqb-false, eq-eqb, ne_eqb}
 use Rattle.std.proofs.lemmas.List.{map-append, drop_more, length-map, length-append, get_or-map}
 use Rattle.std.proofs.lemmas.Simd.{map-map}
-use Rattle.dx_ports.specs.Members.{◌∈◌, ◌⊆◌, here, there, Distinct, Each}
-use Rattle.dx_ports.proofs.Members.{in_right, from_map}
-use Rattle.dx_ports.proofs.Tests.{map_same}
+use Rattle.dx_base.specs.Members.{◌∈◌, ◌⊆◌, here, there, Distinct, Each}
+use Rattle.dx_base.proofs.Members.{in_right, from_map}
+use Rattle.dx_base.proofs.Tests.{map_same}
 use Rattle.dx_instance.specs.Cells.{row_key}
 use Rattle.dx_joins.specs.Joining.{IsJoinOf}
 use Rattle.dx_joins.specs.Looking.{numbers_at_places}

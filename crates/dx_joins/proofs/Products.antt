@@ -5,9 +5,9 @@ use Rattle.std.specs.List.{list_any}
 use Rattle.std.specs.declared.alloc.AllocError.{AllocError}
 use Rattle.std.proofs.lemmas.Bool.{cond-false}
 use Rattle.std.proofs.lemmas.List.{length-append, length-map, length-drop, take-append-drop, take_all, append_assoc}
-use Rattle.dx_ports.specs.Members.{◌∈◌, ◌⊆◌, here, there, Each, Distinct}
-use Rattle.dx_ports.proofs.Members.{in_left, in_right, from_append, from_map, in_flat_map, from_flat_map, map_agrees, no_longer}
-use Rattle.dx_ports.proofs.Tests.{map_same}
+use Rattle.dx_base.specs.Members.{◌∈◌, ◌⊆◌, here, there, Each, Distinct}
+use Rattle.dx_base.proofs.Members.{in_left, in_right, from_append, from_map, in_flat_map, from_flat_map, map_agrees, no_longer}
+use Rattle.dx_base.proofs.Tests.{map_same}
 use Rattle.dx_instance.specs.Cells.{NumberTable}
 use Rattle.dx_joins.specs.declared.pattern.Pattern.{Pattern}
 use Rattle.dx_joins.specs.declared.parts.Part.{Part}

@@ -3,8 +3,8 @@ use Rattle.std.proofs.Common.{◌≡◌, ◌∙◌, ◌<◌, ◌^◌, ℕ, List,
 use Rattle.std.specs.Prelude.{IfOk, IsPermutation, MatchOption}
 use Rattle.std.proofs.lemmas.List.Concat.{length-flat_map}
 use Rattle.std.proofs.lemmas.List.Sorted.{Contains-permutation, IsPermutation-sym, sum_by-IsPermutation}
-use Rattle.dx_ports.specs.Members.{◌∈◌, ◌⊆◌, Each, here}
-use Rattle.dx_ports.proofs.Members.{contains_from_in, from_flat_map, in_flat_map, in_from_contains}
+use Rattle.dx_base.specs.Members.{◌∈◌, ◌⊆◌, Each, here}
+use Rattle.dx_base.proofs.Members.{contains_from_in, from_flat_map, in_flat_map, in_from_contains}
 use Rattle.dx_instance.specs.Cells.{NumberTable}
 use Rattle.dx_joins.specs.declared.pattern.Pattern.{Pattern}
 use Rattle.dx_joins.specs.Collecting.{MoreThan}

@@ -2,9 +2,9 @@
 use Rattle.std.proofs.Common.{◌≡◌, ◌<◌, ◌+◌, ◌++◌, ◌∷◌, ℕ, List, [], sym, subst, arith, length, inl, inr}
 use Rattle.std.specs.List.{range_with_len}
 use Rattle.std.proofs.lemmas.Bool.{cases_lt}
-use Rattle.dx_ports.specs.Members.{◌∈◌, ◌⊆◌, here, there, Each}
-use Rattle.dx_ports.proofs.Members.{in_left, in_right, from_append}
-use Rattle.dx_ports.proofs.Ranges.{to_range}
+use Rattle.dx_base.specs.Members.{◌∈◌, ◌⊆◌, here, there, Each}
+use Rattle.dx_base.proofs.Members.{in_left, in_right, from_append}
+use Rattle.dx_base.proofs.Ranges.{to_range}
 use Rattle.dx_model.specs.declared.rules.Derived.{Derived}
 use Rattle.dx_joins.specs.Derivations.{IsVariableWanted}
 

@@ -3,9 +3,9 @@ use Rattle.std.proofs.Common.{◌≡◌, ◌↔◌, ◌∙◌, ◌<◌, ◌≤�
 use Rattle.std.specs.Prelude.{map, IfOk, MatchOption}
 use Rattle.std.specs.List.{range_with_len}
 use Rattle.std.specs.declared.alloc.AllocError.{AllocError}
-use Rattle.dx_ports.specs.Members.{◌∈◌, ◌⊆◌, Each}
-use Rattle.dx_ports.proofs.Members.{in_map, from_map}
-use Rattle.dx_ports.proofs.Tests.{map_same}
+use Rattle.dx_base.specs.Members.{◌∈◌, ◌⊆◌, Each}
+use Rattle.dx_base.proofs.Members.{in_map, from_map}
+use Rattle.dx_base.proofs.Tests.{map_same}
 use Rattle.dx_model.specs.declared.values.Value.{Value}
 use Rattle.dx_model.specs.declared.facts.Fact.{Fact}
 use Rattle.dx_model.specs.declared.rules.Atom.{Atom}

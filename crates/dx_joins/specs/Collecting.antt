@@ -1,6 +1,6 @@
 -- Rows that are collected, up to a number.
 use Rattle.std.specs.Prelude.{◌≡◌, ◌↔◌, ◌⊎◌, ◌<◌, ◌≤◌, ◌^◌, ℕ, Bool, MatchBool, List, length, take}
-use Rattle.dx_ports.specs.Members.{◌∈◌, Distinct, Each}
+use Rattle.dx_base.specs.Members.{◌∈◌, Distinct, Each}
 use Rattle.dx_instance.specs.Cells.{NumberTable, NumbersAscend}
 
 -- rows of one width, of which no more than so many distinct ones are wanted

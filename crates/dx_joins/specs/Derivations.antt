@@ -1,8 +1,8 @@
 -- Derived variables of a row.
 use Rattle.std.specs.Prelude.{◌≡◌, ◌⊎◌, ℕ, Bool, List, [], ◌++◌, length, map, slice_index_or}
 use Rattle.std.specs.List.{range_with_len}
-use Rattle.dx_ports.specs.Members.{◌∈◌, ◌⊆◌, Each}
-use Rattle.dx_ports.specs.Texts.{Text}
+use Rattle.dx_base.specs.Members.{◌∈◌, ◌⊆◌, Each}
+use Rattle.dx_base.specs.Texts.{Text}
 use Rattle.dx_model.specs.declared.values.Value.{Value}
 use Rattle.dx_model.specs.declared.rules.Derived.{Derived}
 use Rattle.dx_model.specs.Values.{Conversions, Tuple}

@@ -1,6 +1,6 @@
 -- Natural joins of rows of numbers.
 use Rattle.std.specs.Prelude.{◌≡◌, ◌↔◌, ℕ, Bool, false, true, List, map, flat_map, slice_index_or}
-use Rattle.dx_ports.specs.Members.{◌∈◌, Each}
+use Rattle.dx_base.specs.Members.{◌∈◌, Each}
 use Rattle.dx_instance.specs.Cells.{NumberTable}
 use Rattle.dx_instance.specs.Shown.{numbers_of_table}
 use Rattle.dx_joins.specs.declared.pattern.Pattern.{Pattern}

@@ -1,6 +1,6 @@
 -- Variables that are known.
 use Rattle.std.specs.Prelude.{◌≡◌, ◌⊎◌, ◌<◌, ℕ, true, false, List, length, slice_index_or}
-use Rattle.dx_ports.specs.Members.{◌∈◌, Each}
+use Rattle.dx_base.specs.Members.{◌∈◌, Each}
 use Rattle.dx_joins.specs.declared.known.Known.{Known}
 use Rattle.dx_joins.specs.declared.pattern.Pattern.{Pattern}
 

@@ -1,6 +1,6 @@
 -- How a row of a table of partial matches and a row of a pattern's table are put together.
 use Rattle.std.specs.Prelude.{◌≡◌, ◌↔◌, ◌⊎◌, ◌<◌, ◌≤◌, ◌+◌, ◌^◌, ℕ, suc, cond, eqb, Bool, List, [], ◌∷◌, ◌++◌, length, map, slice_index}
-use Rattle.dx_ports.specs.Members.{◌∈◌, ◌⊆◌, Distinct, Each}
+use Rattle.dx_base.specs.Members.{◌∈◌, ◌⊆◌, Distinct, Each}
 use Rattle.dx_instance.specs.Cells.{NumberTable}
 use Rattle.dx_instance.specs.Shown.{numbers_of_table}
 use Rattle.dx_joins.specs.declared.index.Index.{Index}

@@ -1,6 +1,6 @@
 -- Patterns that share no variable, and the products of their rows.
 use Rattle.std.specs.Prelude.{◌≡◌, ◌<◌, ◌^◌, ℕ, Bool, Option, List, ◌++◌, length, IfSome, MatchOption}
-use Rattle.dx_ports.specs.Members.{◌∈◌, ◌⊆◌, Distinct, Each}
+use Rattle.dx_base.specs.Members.{◌∈◌, ◌⊆◌, Distinct, Each}
 use Rattle.dx_instance.specs.Cells.{NumberTable}
 use Rattle.dx_joins.specs.declared.pattern.Pattern.{Pattern}
 use Rattle.dx_joins.specs.declared.parts.Part.{Part}

@@ -1,6 +1,6 @@
 // Patterns that share no variable.
 ghost use Rattle.std.specs.Prelude.{◌↔◌, ℕ, IsTrue};
-ghost use Rattle.dx_ports.specs.Members.{◌∈◌};
+ghost use Rattle.dx_base.specs.Members.{◌∈◌};
 ghost use Rattle.dx_joins.specs.Joining.{variables_of_patterns};
 ghost use Rattle.dx_joins.specs.Products.{ShareNone};
 

@@ -1,7 +1,7 @@
 // Rows of numbers that are collected, each once in the end.
 ghost use Rattle.std.specs.Prelude.{◌≡◌, ◌↔◌, ◌<◌, ◌≤◌, ◌-◌, ◌^◌, ◌++◌, ◌∷◌, [], ℕ, List, IfOk, OnOk, OnErr, MatchOption, length};
 ghost use Rattle.std.specs.Bool.{OnTrue};
-ghost use Rattle.dx_ports.specs.Members.{◌∈◌, ◌⊆◌};
+ghost use Rattle.dx_base.specs.Members.{◌∈◌, ◌⊆◌};
 ghost use Rattle.dx_instance.specs.Cells.{NumbersAscend};
 ghost use Rattle.dx_joins.specs.Collecting.{AreThose, Collects, FirstAscend, MoreThan};
 

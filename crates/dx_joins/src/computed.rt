@@ -1,6 +1,6 @@
 // Derived variables, whose texts a host computes.
 ghost use Rattle.std.specs.Prelude.{◌≡◌, ◌<◌, ◌+◌, ◌^◌, ◌∷◌, [], IfOk, OnOk, length, map};
-ghost use Rattle.dx_ports.specs.Members.{◌⊆◌, Each};
+ghost use Rattle.dx_base.specs.Members.{◌⊆◌, Each};
 ghost use Rattle.dx_model.specs.declared.values.Value.TheVariants.{Const};
 ghost use Rattle.dx_model.specs.Rules.{text_of};
 ghost use Rattle.dx_instance.specs.Numbers.{AreDistinctValues, Extends, value_of};
@@ -9,10 +9,10 @@ ghost use Rattle.dx_joins.specs.Shown.{AreTexts, texts_of};
 ghost use Rattle.dx_joins.specs.Derivations.{IsComputed, IsTextRow, derived_value, with_derived};
 
 use crate::plan::place;
+use dx_base::{Items, Text};
 use dx_funcs::{Host, Meaning};
 use dx_instance::{Symbols, Value};
 use dx_model::Derived;
-use dx_ports::{Items, Text};
 use std::alloc::{AllocError, Global};
 
 /// The variables that rows are for, and the variables that are derived of them, which are numbered from `first` on.

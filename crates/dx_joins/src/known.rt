@@ -1,6 +1,6 @@
 // Which variables are known.
 ghost use Rattle.std.specs.Prelude.{◌↔◌, ◌<◌, ◌≤◌, ◌∷◌, [], ℕ, IfOk, IsTrue};
-ghost use Rattle.dx_ports.specs.Members.{Each};
+ghost use Rattle.dx_base.specs.Members.{Each};
 ghost use Rattle.dx_joins.specs.Joining.{variables_of_patterns};
 ghost use Rattle.dx_joins.specs.Knowing.{HasPlaces, IsKnown, IsMet, NowKnown};
 

@@ -1,6 +1,6 @@
 // The order in which patterns are joined.
 ghost use Rattle.std.specs.Prelude.{◌≡◌, ◌<◌, ◌≤◌, [], IfOk, IfSome, IsPermutation, MatchOption, length};
-ghost use Rattle.dx_ports.specs.Members.{Each};
+ghost use Rattle.dx_base.specs.Members.{Each};
 ghost use Rattle.dx_joins.specs.Collecting.{MoreThan};
 ghost use Rattle.dx_joins.specs.Joining.{variables_of_patterns};
 ghost use Rattle.dx_joins.specs.Planning.{AreFewAmong, AreJoinable, FitPattern, IsMatchRow, AreMatchRows};

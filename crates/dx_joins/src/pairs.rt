@@ -1,6 +1,6 @@
 // Pairs of rows.
 ghost use Rattle.std.specs.Prelude.{◌≡◌, ◌↔◌, ◌<◌, ◌+◌, ◌++◌, OnOk, IsTrue, length, slice_index};
-ghost use Rattle.dx_ports.specs.Members.{Each};
+ghost use Rattle.dx_base.specs.Members.{Each};
 ghost use Rattle.dx_instance.specs.Shown.{AreBelow};
 ghost use Rattle.dx_joins.specs.Joining.{AreMarked};
 ghost use Rattle.dx_joins.specs.Looking.{numbers_at_places};

@@ -1,6 +1,6 @@
 // How rows of partial matches and rows of a table are put together.
 ghost use Rattle.std.specs.Prelude.{◌≡◌, ◌↔◌, ◌<◌, ◌++◌, IfOk, IsTrue, length, map};
-ghost use Rattle.dx_ports.specs.Members.{◌∈◌, ◌⊆◌, Distinct};
+ghost use Rattle.dx_base.specs.Members.{◌∈◌, ◌⊆◌, Distinct};
 ghost use Rattle.dx_joins.specs.Planning.{IsJoinPlan, first_place};
 
 use std::alloc::{AllocError, Global};

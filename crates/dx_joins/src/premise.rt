@@ -1,6 +1,6 @@
 // The join of a premise, pattern by pattern.
 ghost use Rattle.std.specs.Prelude.{◌≡◌, ◌↔◌, ◌<◌, ◌≤◌, ◌+◌, ◌-◌, ◌^◌, ◌++◌, ◌∷◌, [], ℕ, IfOk, IfSome, OnOk, IsTrue, MatchOption, length};
-ghost use Rattle.dx_ports.specs.Members.{◌∈◌, ◌⊆◌, Distinct, Each};
+ghost use Rattle.dx_base.specs.Members.{◌∈◌, ◌⊆◌, Distinct, Each};
 ghost use Rattle.dx_joins.specs.Collecting.{AreThose, MoreThan};
 ghost use Rattle.dx_joins.specs.Joining.{variables_of_patterns};
 ghost use Rattle.dx_joins.specs.Planning.{AddsOnce, AreFewAmong, AreJoinable, CarriesOn, FitPattern, IsVariableNeeded, IsMatchRow};

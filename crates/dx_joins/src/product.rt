@@ -1,6 +1,6 @@
 // Each row of a table of partial matches with each row of another.
 ghost use Rattle.std.specs.Prelude.{◌≡◌, ◌<◌, ◌≤◌, ◌+◌, ◌^◌, IfOk, IfSome, MatchOption, length};
-ghost use Rattle.dx_ports.specs.Members.{Each};
+ghost use Rattle.dx_base.specs.Members.{Each};
 ghost use Rattle.dx_joins.specs.Collecting.{AreThose, Collects, MoreThan};
 ghost use Rattle.dx_joins.specs.Products.{Crosses, CrossesWith};
 

@@ -1,7 +1,7 @@
 // What the matches of a premise and derived variables give to any variables.
 ghost use Rattle.std.specs.Prelude.{◌≡◌, ◌↔◌, ◌<◌, ◌≤◌, ◌+◌, ◌^◌, ◌++◌, [], ℕ, IfOk, IfSome, IsTrue, MatchOption, length, max};
 ghost use Rattle.std.specs.List.{range_with_len};
-ghost use Rattle.dx_ports.specs.Members.{◌∈◌, Each};
+ghost use Rattle.dx_base.specs.Members.{◌∈◌, Each};
 ghost use Rattle.dx_model.specs.declared.rules.Derived.{Derived as AnyDerived};
 ghost use Rattle.dx_model.specs.Rules.{after_cells, cells_of};
 ghost use Rattle.dx_funcs.specs.Offers.{IsListed};
@@ -19,10 +19,10 @@ use crate::computed::Derivation;
 use crate::pairs::gather;
 use crate::plan::{copied, has, places};
 use crate::texts::premise_shown;
+use dx_base::{Items, Text};
 use dx_funcs::{Host, Meaning};
 use dx_instance::{Numbers, Rows, Symbols};
 use dx_model::{Atom, Cell, Derived};
-use dx_ports::{Items, Text};
 use std::alloc::{AllocError, Global};
 
 // The number after the variables of cells, which is no less than `least`.

@@ -14,14 +14,14 @@ use Rattle.json.specs.Text.{code_unit, content, short_escape}
 use Rattle.json.specs.Word.{after_number, word}
 use Rattle.serde_json.specs.Data.{Data, Num, unsigned, negative, float, null, boolean, number, string, array, object, Items, no_items, item, no_members, member}
 use Rattle.serde_json.specs.Read.{read}
-use Rattle.dx_ports.specs.Members.{◌∈◌, ◌⊆◌, here, there}
+use Rattle.dx_base.specs.Members.{◌∈◌, ◌⊆◌, here, there}
 use Rattle.dx_model.specs.declared.values.NullId.{NullId}
 use Rattle.dx_model.specs.declared.values.Value.{Value}
 use Rattle.dx_model.specs.declared.values.Value.TheVariants.{Const, Null}
 use Rattle.dx_model.specs.Values.{RowsAscend, row_cmp}
 use Rattle.dx_model.specs.declared.facts.Fact.{Fact}
 use Rattle.dx_schema.specs.Forest.{Forest, Label, Tree, none, set, bare_set}
-use Rattle.dx_ports.specs.Texts.{Text}
+use Rattle.dx_base.specs.Texts.{Text}
 use Rattle.dx_instance.specs.Stored.{TableRows, rows_of}
 use Rattle.dx_json.specs.declared.fault.JsonKind.TheVariants as kind
 use Rattle.dx_json.specs.Said.{DocumentItem, says, wrong_shape, wrong_number, unknown_member, column_faults, constant, data_reading, id_of, no_constant}

@@ -2,7 +2,7 @@
 use Rattle.std.proofs.Common.{◌≡◌, ℕ, zero, suc, List, [], ◌∷◌, refl, sym, ◌∙◌, ap}
 use Rattle.std.specs.Cmp.{IsTotalOrder}
 use Rattle.std.proofs.lemmas.Cmp.{lists_total}
-use Rattle.dx_ports.specs.Members.{◌⊆◌}
+use Rattle.dx_base.specs.Members.{◌⊆◌}
 use Rattle.dx_model.specs.Values.{RowsAscend, row_cmp}
 use Rattle.dx_model.proofs.Orders.{value_total, row_exact}
 use Rattle.dx_model.proofs.Ascending.{one_ascending, in_order, in_order_ascends, in_in_order, from_in_order}

@@ -1,8 +1,8 @@
 -- Parts of lists that grow.
 use Rattle.std.proofs.Common.{◌≡◌, ℕ, ◌-◌, ◌≤◌, ◌<◌, List, [], ◌∷◌, ◌++◌, length, get_or, map, take, drop, IsUtf8, refl, sym, ap, ◌∙◌, subst, arith, inl, inr, length-append, length-drop, take_all, drop_at, Result, Ok, Err, OnErr}
 use Rattle.std.proofs.lemmas.List.{drop-append-le, take-append-le, length-map}
-use Rattle.dx_ports.specs.Members.{◌∈◌, Each, here, there}
-use Rattle.dx_ports.proofs.Members.{from_append, in_at}
+use Rattle.dx_base.specs.Members.{◌∈◌, Each, here, there}
+use Rattle.dx_base.proofs.Members.{from_append, in_at}
 use Rattle.dx_json.specs.Spans.{IsSpan, span_text}
 
 -- a part of a list is one of a longer list

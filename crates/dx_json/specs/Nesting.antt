@@ -2,7 +2,7 @@
 use Rattle.std.specs.Prelude.{◌≡◌, ℕ, suc, ◌+◌, List, [], ◌∷◌, ◌++◌, Bool, true, false, drop, filter, if◌then◌else◌}
 use Rattle.serde_json.specs.Data.{string, array, object, Items, no_items, item, Members, no_members, put}
 use Rattle.serde_json.specs.Written.{compact_text}
-use Rattle.dx_ports.specs.Texts.{Text}
+use Rattle.dx_base.specs.Texts.{Text}
 use Rattle.dx_model.specs.declared.values.Value.{Value}
 use Rattle.dx_model.specs.Covers.{same_value}
 use Rattle.dx_model.specs.Tables.{cell}

@@ -5,8 +5,8 @@ ghost use Rattle.dx_model.specs.declared.facts.Fact.{Fact as OneFact};
 ghost use Rattle.dx_json.specs.Lines.{constants_in};
 
 use crate::texts::{SharedTexts, Texts};
+use dx_base::Text;
 use dx_model::{Fact, Row, Value};
-use dx_ports::Text;
 use std::alloc::{AllocError, Global};
 use std::marker::Model;
 
@@ -28,7 +28,7 @@ pub struct FactList {
 impl Model for FactList {
     ghost use Rattle.std.specs.Prelude.{List, map};
     ghost use Rattle.dx_model.specs.declared.facts.Fact.{Fact as OneFact};
-    ghost use Rattle.dx_ports.specs.Members.{Each};
+    ghost use Rattle.dx_base.specs.Members.{Each};
     ghost use Rattle.dx_json.specs.Lines.{IsLine, line_fact};
 
     ghost Value = { List OneFact };
@@ -85,7 +85,7 @@ pub struct Facts {
 impl Model for Facts {
     ghost use Rattle.std.specs.Prelude.{List, map};
     ghost use Rattle.dx_model.specs.declared.facts.Fact.{Fact as OneFact};
-    ghost use Rattle.dx_ports.specs.Members.{Each};
+    ghost use Rattle.dx_base.specs.Members.{Each};
     ghost use Rattle.dx_json.specs.Lines.{IsLine, line_fact};
 
     ghost Value = { List OneFact };

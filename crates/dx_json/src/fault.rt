@@ -4,7 +4,7 @@ ghost use Rattle.dx_json.specs.declared.fault.JsonFault.TheVariants.{Memory};
 ghost use Rattle.dx_json.specs.Unread.{fault_of};
 
 use crate::reading::Unread;
-use dx_ports::Text;
+use dx_base::Text;
 use std::alloc::{AllocError, AllocFailed};
 use thiserror::Error;
 

@@ -7,7 +7,7 @@ ghost use Rattle.dx_json.specs.Said.{ReadsConstant, IsObjectRow, path_below, col
 
 use crate::fault::{JsonFault, JsonKind};
 use crate::tree::Json;
-use dx_ports::Text;
+use dx_base::Text;
 use dx_schema::SetTree;
 use std::alloc::{AllocError, Global};
 

@@ -1,7 +1,7 @@
 // Rows as a document.
 ghost use Rattle.std.specs.Prelude.{◌≡◌, ◌+◌, ◌<◌, ◌^◌, [], ◌∷◌, length, string_bytes, IfOk, OnOk};
 ghost use Rattle.serde_json.specs.Data.{array, object, string};
-ghost use Rattle.dx_ports.specs.declared.limits.TheConstants.{TABLES};
+ghost use Rattle.dx_base.specs.declared.limits.TheConstants.{TABLES};
 ghost use Rattle.dx_schema.specs.Tables.{count, schema_widths, tables_of, tree_at};
 ghost use Rattle.dx_instance.specs.Places.{IsFirstWith, row_at};
 ghost use Rattle.dx_instance.specs.Stored.{rows_of, table_at, widths};
@@ -12,8 +12,8 @@ ghost use Rattle.dx_json.specs.Standing.{Stand};
 ghost use Rattle.dx_json.specs.Wrote.{WroteValue};
 
 use crate::orders::{Order, Source, root_orders};
+use dx_base::Text;
 use dx_instance::{Instance, Value, value_text};
-use dx_ports::Text;
 use dx_schema::{Schema, SetTree, Trees};
 use json::Writer;
 use std::alloc::{AllocError, Global};

@@ -1,13 +1,13 @@
 // The order of the members of objects.
 ghost use Rattle.std.specs.Prelude.{◌≡◌, ◌+◌, ◌<◌, ◌≤◌, ◌^◌, ◌++◌, length, suc, true, IfOk, OnOk};
-ghost use Rattle.dx_ports.specs.declared.limits.TheConstants.{TABLES};
+ghost use Rattle.dx_base.specs.declared.limits.TheConstants.{TABLES};
 ghost use Rattle.dx_schema.specs.Tables.{count};
 ghost use Rattle.dx_json.specs.Nesting.{own_from};
 ghost use Rattle.dx_json.specs.Orders.{HasRoot, IsReadyRoot, all_slots, order_of as order_at, orders_of, slot_put, slots_of, with_cells, with_inner};
 ghost use Rattle.dx_json.specs.Standing.{Stand};
 
+use dx_base::{Items, Text};
 use dx_instance::Instance;
-use dx_ports::{Items, Text};
 use dx_schema::{SetTree, Trees};
 use std::alloc::{AllocError, Global};
 use std::collections::BTreeMap;

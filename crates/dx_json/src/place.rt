@@ -1,5 +1,5 @@
 // Where a list of objects stands.
-use dx_ports::Text;
+use dx_base::Text;
 
 /// The table of a list of objects, the `#up` of its rows if it is an inner set's, and its path.
 #[derive(Drop)]

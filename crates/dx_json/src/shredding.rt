@@ -3,7 +3,7 @@ ghost use Rattle.std.specs.Prelude.{◌≡◌, ◌+◌, ◌<◌, ◌^◌, ◌++�
 ghost use Rattle.std.specs.Fmt.{decimal};
 ghost use Rattle.serde_json.specs.Data.{Data, Items};
 ghost use Rattle.serde_json.specs.Read.{max_depth, read as read_text};
-ghost use Rattle.dx_ports.specs.declared.limits.TheConstants.{TABLES};
+ghost use Rattle.dx_base.specs.declared.limits.TheConstants.{TABLES};
 ghost use Rattle.dx_model.specs.declared.facts.Fact.{Fact};
 ghost use Rattle.dx_model.specs.Tables.{IsInstance};
 ghost use Rattle.dx_schema.specs.Tables.{count, model_tables, schema_table, tables_of};
@@ -18,7 +18,7 @@ use crate::members::{check_members, copy_of, id_of, member_of, path_below, row_o
 use crate::place::Place;
 use crate::reading::{MAX_DEPTH, Unread, read, read_from, text_of};
 use crate::tree::Json;
-use dx_ports::Text;
+use dx_base::Text;
 use dx_schema::{Schema, SetTree, Trees};
 use json::{Reader, Scratch, Token};
 use std::alloc::{AllocError, Global};

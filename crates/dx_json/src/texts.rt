@@ -1,7 +1,7 @@
 // Texts in one buffer.
 ghost use Rattle.std.specs.Prelude.{◌≡◌, ◌<◌, ◌++◌, ◌∷◌, [], ℕ, List, IfOk, OnOk, OnErr, get_or, length};
 
-use dx_ports::Text;
+use dx_base::Text;
 use std::alloc::{AllocError, Global};
 use std::marker::Model;
 use std::rc::Rc;
@@ -15,7 +15,7 @@ pub struct Texts {
 
 impl Model for Texts {
     ghost use Rattle.std.specs.Prelude.{ℕ, List, map, string_bytes};
-    ghost use Rattle.dx_ports.specs.Members.{Each};
+    ghost use Rattle.dx_base.specs.Members.{Each};
     ghost use Rattle.dx_json.specs.Spans.{IsSpan, span_text};
 
     ghost Value = { List (List ℕ) };
@@ -80,7 +80,7 @@ pub struct SharedTexts {
 
 impl Model for SharedTexts {
     ghost use Rattle.std.specs.Prelude.{ℕ, List, map, string_bytes};
-    ghost use Rattle.dx_ports.specs.Members.{Each};
+    ghost use Rattle.dx_base.specs.Members.{Each};
     ghost use Rattle.dx_json.specs.Spans.{IsSpan, span_text};
 
     ghost Value = { List (List ℕ) };

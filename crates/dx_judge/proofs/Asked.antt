@@ -6,10 +6,10 @@ use Rattle.std.specs.declared.alloc.AllocError.{AllocError}
 use Rattle.std.proofs.lemmas.Bool.{cases_Bool, false≢true, true≢false}
 use Rattle.std.proofs.lemmas.List.{get_or-map, get_or_default, length-map, map-append, take_more}
 use Rattle.std.proofs.lemmas.Option.{none-some}
-use Rattle.dx_ports.specs.Members.{◌∈◌, here, there, Each}
-use Rattle.dx_ports.proofs.Lists.{zip_long, zip_push, to_zip, from_zip}
-use Rattle.dx_ports.proofs.Members.{from_map, in_at, in_flat_map, in_map}
-use Rattle.dx_ports.proofs.Options.{nothing, none_known}
+use Rattle.dx_base.specs.Members.{◌∈◌, here, there, Each}
+use Rattle.dx_base.proofs.Lists.{zip_long, zip_push, to_zip, from_zip}
+use Rattle.dx_base.proofs.Members.{from_map, in_at, in_flat_map, in_map}
+use Rattle.dx_base.proofs.Options.{nothing, none_known}
 use Rattle.dx_model.specs.declared.facts.Fact.{Fact}
 use Rattle.dx_model.specs.declared.values.NullId.{NullId}
 use Rattle.dx_model.specs.declared.values.Value.{Value}

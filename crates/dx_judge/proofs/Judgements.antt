@@ -2,9 +2,9 @@
 use Rattle.std.proofs.Common.{◌≡◌, ◌∙◌, ◌⊎◌, List, None, inl, inr, refl, sym, ap, subst, arith}
 use Rattle.std.specs.Prelude.{map}
 use Rattle.std.proofs.lemmas.Bool.{cases_lt}
-use Rattle.dx_ports.specs.Members.{◌∈◌}
-use Rattle.dx_ports.specs.declared.file.Count.TheVariants.{TargetCells}
-use Rattle.dx_ports.specs.declared.file.Limit.{Limit as LimitOf}
+use Rattle.dx_base.specs.Members.{◌∈◌}
+use Rattle.dx_base.specs.declared.file.Count.TheVariants.{TargetCells}
+use Rattle.dx_base.specs.declared.file.Limit.{Limit as LimitOf}
 use Rattle.dx_funcs.specs.declared.conversion.Conversion.{Conversion}
 use Rattle.dx_model.specs.declared.facts.Fact.{Fact}
 use Rattle.dx_model.specs.declared.rules.Rule.{Rule}

@@ -3,8 +3,8 @@ use Rattle.std.proofs.Common.{◌≡◌, ◌∙◌, ◌⊎◌, ℕ, ◌+◌, ◌
 use Rattle.std.specs.Prelude.{map, ◌↔◌, IfOk, IsTrue}
 use Rattle.std.specs.declared.alloc.AllocError.{AllocError}
 use Rattle.std.proofs.lemmas.List.{get_or-map, length-map, take_more}
-use Rattle.dx_ports.specs.Members.{◌∈◌, ◌⊆◌, Each, here, there}
-use Rattle.dx_ports.proofs.Members.{from_append, from_map, in_at, in_map}
+use Rattle.dx_base.specs.Members.{◌∈◌, ◌⊆◌, Each, here, there}
+use Rattle.dx_base.proofs.Members.{from_append, from_map, in_at, in_map}
 use Rattle.dx_model.specs.declared.facts.Fact.{Fact}
 use Rattle.dx_model.specs.declared.rules.Atom.{Atom}
 use Rattle.dx_model.specs.declared.rules.Rule.{Rule}
@@ -12,7 +12,7 @@ use Rattle.dx_model.specs.declared.values.NullId.{NullId}
 use Rattle.dx_model.specs.declared.values.Value.{Value}
 use Rattle.dx_model.specs.declared.values.Value.TheVariants.{Const, Null}
 use Rattle.dx_model.specs.Values.{Tuple}
-use Rattle.dx_ports.specs.Texts.{Text}
+use Rattle.dx_base.specs.Texts.{Text}
 use Rattle.dx_model.specs.Instances.{MapsInto, Moves, fact_moved, given, moved}
 use Rattle.dx_model.specs.Blocks.{IsClosedPart}
 use Rattle.dx_model.specs.Fitting.{AtomsFitWidths}

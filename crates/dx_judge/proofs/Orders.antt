@@ -5,9 +5,9 @@ use Rattle.std.specs.List.{range_with_len}
 use Rattle.std.proofs.lemmas.List.{get_or-map, get_or_default, length-map, map-append}
 use Rattle.std.proofs.lemmas.List.FromFn.{length-range_with_len}
 use Rattle.std.proofs.lemmas.List.Sorted.{Contains-permutation, IsPermutation-sym, length_permutation}
-use Rattle.dx_ports.specs.Members.{◌∈◌, ◌⊆◌, ◌≈◌, here, there, Each}
-use Rattle.dx_ports.proofs.Members.{contains_from_in, from_map, in_at, in_from_contains, in_map, map_agrees, same_trans}
-use Rattle.dx_ports.proofs.Ranges.{from_range, range_more, to_range}
+use Rattle.dx_base.specs.Members.{◌∈◌, ◌⊆◌, ◌≈◌, here, there, Each}
+use Rattle.dx_base.proofs.Members.{contains_from_in, from_map, in_at, in_from_contains, in_map, map_agrees, same_trans}
+use Rattle.dx_base.proofs.Ranges.{from_range, range_more, to_range}
 use Rattle.dx_model.specs.declared.facts.Fact.{Fact}
 use Rattle.dx_model.specs.declared.values.NullId.{NullId}
 use Rattle.dx_model.specs.declared.values.Value.{Value}

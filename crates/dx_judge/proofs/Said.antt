@@ -1,8 +1,8 @@
 -- Texts of variables by their places; the first tuple and the first place that does not hold.
 use Rattle.std.proofs.Common.{◌≡◌, ◌∙◌, ℕ, zero, suc, ◌+◌, ◌*◌, ◌<◌, ◌≤◌, ◌^◌, List, [], ◌∷◌, inl, inr, refl, sym, ap, subst, arith, length, get_or, drop, drop-cons, Option, Some, None, mul-le-mul_left}
 use Rattle.std.proofs.lemmas.Bool.{cases_lt, eq-eqb, ne_eqb}
-use Rattle.dx_ports.specs.Members.{◌∈◌, Each, here, there}
-use Rattle.dx_ports.proofs.Members.{contains_from_in, in_at}
+use Rattle.dx_base.specs.Members.{◌∈◌, Each, here, there}
+use Rattle.dx_base.proofs.Members.{contains_from_in, in_at}
 use Rattle.dx_model.specs.declared.facts.Fact.{Fact}
 use Rattle.dx_model.specs.declared.rules.Rule.{Rule}
 use Rattle.dx_model.specs.Values.{Conversions, Rows, Tuple}

@@ -3,8 +3,8 @@ use Rattle.std.proofs.Common.{◌≡◌, ◌⊎◌, ℕ, ◌≤◌, List, [], in
 use Rattle.std.specs.Prelude.{map, IfOk}
 use Rattle.std.specs.declared.alloc.AllocError.{AllocError}
 use Rattle.std.specs.declared.cmp.Ordering.TheVariants.{Less}
-use Rattle.dx_ports.specs.Members.{◌∈◌, ◌⊆◌, ◌≈◌, Each}
-use Rattle.dx_ports.proofs.Members.{in_at, same_sym, same_trans}
+use Rattle.dx_base.specs.Members.{◌∈◌, ◌⊆◌, ◌≈◌, Each}
+use Rattle.dx_base.proofs.Members.{in_at, same_sym, same_trans}
 use Rattle.dx_model.specs.declared.facts.Fact.{Fact}
 use Rattle.dx_model.specs.declared.rules.Rule.{Rule}
 use Rattle.dx_model.specs.Values.{Conversions, Rows, RowsAscend, row_cmp}

@@ -1,6 +1,6 @@
 -- What holds of verdicts. Each law is the clause of a public function with an empty body.
 use Rattle.std.specs.Prelude.{◌≡◌, List}
-use Rattle.dx_ports.specs.Members.{◌≈◌}
+use Rattle.dx_base.specs.Members.{◌≈◌}
 use Rattle.dx_model.specs.declared.facts.Fact.{Fact}
 use Rattle.dx_model.specs.declared.rules.Rule.{Rule}
 use Rattle.dx_model.specs.Values.{Conversions, Rows}

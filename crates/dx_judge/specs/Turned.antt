@@ -1,6 +1,6 @@
 -- Instances with the columns of their tables in another order.
 use Rattle.std.specs.Prelude.{◌≡◌, ◌↔◌, ℕ, ◌<◌, List, [], length, map, slice_index_or}
-use Rattle.dx_ports.specs.Members.{◌∈◌, ◌≈◌, Each}
+use Rattle.dx_base.specs.Members.{◌∈◌, ◌≈◌, Each}
 use Rattle.dx_model.specs.declared.facts.Fact.{Fact}
 use Rattle.dx_model.specs.Tables.{values_in}
 use Rattle.dx_instance.specs.Stored.{TableRows, facts, table_at}

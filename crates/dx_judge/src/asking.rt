@@ -1,7 +1,7 @@
 // Facts as a question to the solver, with a variable for each of their nulls.
 ghost use Rattle.std.specs.Prelude.{◌≡◌, ◌↔◌, ◌<◌, [], ℕ, IfOk, IsTrue, MatchOption, None, length, replicate};
 ghost use Rattle.std.specs.List.{AllZip};
-ghost use Rattle.dx_ports.specs.Members.{◌∈◌, Each};
+ghost use Rattle.dx_base.specs.Members.{◌∈◌, Each};
 ghost use Rattle.dx_model.specs.declared.values.NullId.{NullId as Id};
 ghost use Rattle.dx_model.specs.declared.values.Value.TheVariants.{Null};
 ghost use Rattle.dx_model.specs.Tables.{values_in};
@@ -11,9 +11,9 @@ ghost use Rattle.dx_solver.specs.Questions.{FitsAtom, HasImageRow};
 ghost use Rattle.dx_judge.specs.Asking.{AreNullVariables, HasStranger, HasStrangerIn, IsStranger, SaysTurned, SaysValue, place_in};
 ghost use Rattle.dx_judge.specs.Turned.{CanTurn};
 
+use dx_base::Items;
 use dx_instance::Numbers;
 use dx_model::{Fact, NullId, Value};
-use dx_ports::Items;
 use dx_solver::{PatternAtom, Taken, Term, Terms, solve};
 use std::alloc::{AllocError, Global};
 

@@ -1,6 +1,6 @@
 // Whether facts move into an instance.
 ghost use Rattle.std.specs.Prelude.{◌↔◌, IfOk, IsTrue};
-ghost use Rattle.dx_ports.specs.Members.{◌⊆◌, Each};
+ghost use Rattle.dx_base.specs.Members.{◌⊆◌, Each};
 ghost use Rattle.dx_instance.specs.Stored.{facts, HasTableIn};
 ghost use Rattle.dx_judge.specs.Open.{CanMove, IsGround};
 ghost use Rattle.dx_judge.specs.Turning.{IsTurnedOne};

@@ -1,6 +1,6 @@
 // The first place of rules that does not hold.
 ghost use Rattle.std.specs.Prelude.{◌↔◌, IfOk, IsTrue};
-ghost use Rattle.dx_ports.specs.Members.{Each};
+ghost use Rattle.dx_base.specs.Members.{Each};
 ghost use Rattle.dx_model.specs.Fitting.{AtomsFitWidths};
 ghost use Rattle.dx_model.specs.Matches.{rows_of_matches};
 ghost use Rattle.dx_instance.specs.Stored.{facts, widths};
@@ -10,8 +10,8 @@ ghost use Rattle.dx_judge.specs.Open.{AreMatchesOf, AreTuplesOf, IsFirstOpen, Is
 use crate::moving::moves_into;
 use crate::saying::facts_said;
 use crate::turning::Turned;
+use dx_base::Text;
 use dx_model::{Matches, Places, Rule};
-use dx_ports::Text;
 use dx_tgd::exported;
 use std::alloc::{AllocError, Global};
 

@@ -1,11 +1,11 @@
 // An instance with the columns of its tables in another order: those with more values first.
 ghost use Rattle.std.specs.Prelude.{◌≡◌, ◌<◌, IfOk, OnOk, length};
-ghost use Rattle.dx_ports.specs.Members.{Each};
+ghost use Rattle.dx_base.specs.Members.{Each};
 ghost use Rattle.dx_instance.specs.Shown.{numbers_of_table};
 ghost use Rattle.dx_judge.specs.Turning.{AreOrdersOf, AreTablesTurned, IsColumnOrder, IsTableTurned, IsTurnedOne, row_turned};
 
+use dx_base::Items;
 use dx_instance::{Instance, Numbers, Rows};
-use dx_ports::Items;
 use std::alloc::{AllocError, Global};
 
 /// An instance, and the same facts with their values in other orders, with an index of each column: rows are looked up by the first

@@ -7,7 +7,7 @@ use Rattle.dx_model.specs.declared.facts.NullPair.{NullPair}
 use Rattle.dx_model.specs.Tables.{Table, Determination, table_of, cell, values_in, KeysHold}
 use Rattle.dx_model.specs.Instances.{given, image, moved}
 use Rattle.dx_model.specs.Chase.{after, AreSteps, IsClashAt, IsForcedMap, NoneReceives}
-use Rattle.dx_ports.specs.Members.{◌∈◌, Each}
+use Rattle.dx_base.specs.Members.{◌∈◌, Each}
 use Rattle.dx_chase.specs.Demands.{Demand}
 use Rattle.dx_chase.specs.declared.demands.ClashAt.{ClashAt}
 use Rattle.dx_chase.specs.Tables.{ChaseTable}

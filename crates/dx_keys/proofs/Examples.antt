@@ -1,7 +1,7 @@
 -- What a chase answers, on small values: a table with three keys, its first column, both columns and its second column, stands after
 -- one without keys. It has more keys than there are tables.
 use Rattle.std.proofs.Common.{◌≡◌, ℕ, List, [], ◌∷◌, codes, refl, ap, arith}
-use Rattle.dx_ports.specs.Members.{here, there}
+use Rattle.dx_base.specs.Members.{here, there}
 use Rattle.dx_model.specs.declared.values.Value.{Value}
 use Rattle.dx_model.specs.declared.values.Value.TheVariants.{Const}
 use Rattle.dx_model.specs.declared.facts.Fact.{Fact}

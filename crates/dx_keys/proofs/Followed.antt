@@ -11,11 +11,11 @@ use Rattle.dx_model.specs.declared.facts.NullPair.{NullPair}
 use Rattle.dx_model.specs.Tables.{Table}
 use Rattle.dx_model.specs.Tables.{Determination}
 use Rattle.dx_model.specs.Values.{value_cmp}
-use Rattle.dx_ports.specs.Members.{◌∈◌}
+use Rattle.dx_base.specs.Members.{◌∈◌}
 use Rattle.dx_model.specs.Instances.{moved, fact_moved, same_null, given, values, image, IsHomomorphism}
 use Rattle.dx_model.specs.Tables.{IsInstance, KeysHold, IsKeyed}
 use Rattle.dx_model.specs.Chase.{ForcedEqual, IsForcedMap, IsKeyStep, IsClashAt, NoneReceives, AreSteps, after}
-use Rattle.dx_ports.proofs.Members.{in_map, from_map}
+use Rattle.dx_base.proofs.Members.{in_map, from_map}
 use Rattle.dx_model.proofs.Maps.{same_null-true, listing, is_null_map, listing_gives, listing_pairs, moved_same}
 use Rattle.dx_model.proofs.Forced.{fact_twice, steps_forced, clash_none}
 use Rattle.dx_model.proofs.Closed.{image_fits}

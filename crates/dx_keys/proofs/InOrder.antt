@@ -5,14 +5,14 @@ use Rattle.std.specs.declared.cmp.Ordering.TheVariants.{Less, Equal, Greater}
 use Rattle.std.proofs.lemmas.Bool.{cases_eq}
 use Rattle.std.proofs.lemmas.List.{get_or_default, length-map, take_all, take_more}
 use Rattle.std.proofs.lemmas.List.FromFn.{length-range_with_len}
-use Rattle.dx_ports.specs.Members.{◌∈◌, Distinct, Each}
-use Rattle.dx_ports.proofs.Members.{in_map}
+use Rattle.dx_base.specs.Members.{◌∈◌, Distinct, Each}
+use Rattle.dx_base.proofs.Members.{in_map}
 use Rattle.dx_model.specs.declared.values.NullId.{NullId}
 use Rattle.dx_model.specs.declared.values.Value.{Value}
 use Rattle.dx_model.specs.declared.values.Value.TheVariants.{Const, Null}
 use Rattle.dx_model.specs.Tables.{cell}
 use Rattle.dx_model.specs.Values.{value_cmp}
-use Rattle.dx_ports.specs.Texts.{Text}
+use Rattle.dx_base.specs.Texts.{Text}
 use Rattle.dx_instance.specs.Cells.{NumberTable, numbers_at, with_numbers}
 use Rattle.dx_instance.specs.Numbers.{AreDistinctValues, IsOrdering, ValuesAscend, value_of}
 use Rattle.dx_instance.specs.Shown.{NumbersFit, PartsFit, NumberRowsFit, renumbered, shown, shown_row, shown_tables}

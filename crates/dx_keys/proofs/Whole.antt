@@ -13,7 +13,7 @@ use Rattle.dx_chase.specs.Joins.{demand_at, AreDemands, AllFit, IsClashOfDemands
 use Rattle.dx_chase.specs.Boards.{firsts}
 use Rattle.dx_chase.specs.Rows.{TablesAreBelow, AreRowDemands, ColumnsFit, number_row}
 use Rattle.dx_chase.proofs.RowDemands.{row_demands}
-use Rattle.dx_ports.proofs.Members.{from_flat_map, from_map, in_at}
+use Rattle.dx_base.proofs.Members.{from_flat_map, from_map, in_at}
 use Rattle.dx_keys.specs.Numbers.{AreValues, steps_of}
 use Rattle.dx_keys.proofs.Demanding.{AreDemandsOf, AreTablesOf, IsRowChase, IsRowClash, IsRowMap, left_fact}
 use Rattle.dx_keys.proofs.Followed.{clash_followed}

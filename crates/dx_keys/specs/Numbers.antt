@@ -1,8 +1,8 @@
 -- Values under numbers, and how numbers are read as values again.
 use Rattle.std.specs.Prelude.{◌≡◌, ℕ, ◌<◌, ◌≤◌, ◌+◌, ◌⊎◌, List, [], ◌∷◌, map, length, cond, nat_eq}
 use Rattle.std.specs.declared.cmp.Ordering.TheVariants.{Less, Greater}
-use Rattle.dx_ports.specs.Members.{Each}
-use Rattle.dx_ports.specs.Texts.{Text}
+use Rattle.dx_base.specs.Members.{Each}
+use Rattle.dx_base.specs.Texts.{Text}
 use Rattle.dx_model.specs.declared.values.NullId.{NullId}
 use Rattle.dx_model.specs.declared.values.Value.{Value}
 use Rattle.dx_model.specs.declared.values.Value.TheVariants.{Const, Null}

@@ -1,7 +1,7 @@
 // What the key chase of an instance answers.
+use dx_base::Items;
 use dx_instance::{Instance, NullMap};
 use dx_model::{NullPair, Row};
-use dx_ports::Items;
 
 /// The null becomes the value, in the whole instance.
 pub type KeyStep = NullPair;

@@ -16,9 +16,9 @@ use crate::keyless::{has_no_determinations, unchanged};
 use crate::numbering::{Numbering, number};
 use crate::reading::{read_image, read_map};
 use crate::tables::number_tables;
+use dx_base::Items;
 use dx_chase::{NumberTable, RowsChased, chase_rows};
 use dx_instance::Instance;
-use dx_ports::Items;
 use dx_schema::Schema;
 use std::alloc::{AllocError, Global};
 

@@ -1,6 +1,6 @@
 // What is made of an instance if no table has a key or a dependency: nothing changes.
 ghost use Rattle.std.specs.Prelude.{◌≡◌, ◌<◌, ◌↔◌, [], List, IfOk, IsTrue, length};
-ghost use Rattle.dx_ports.specs.Members.{Each};
+ghost use Rattle.dx_base.specs.Members.{Each};
 ghost use Rattle.dx_model.specs.Tables.{IsKeyed, Table as ModelTable};
 ghost use Rattle.dx_schema.specs.Tables.{determinations_of, schema_table, tables_of};
 ghost use Rattle.dx_instance.specs.Stored.{facts};

@@ -1,6 +1,6 @@
 // From numbers back to values.
 ghost use Rattle.std.specs.Prelude.{◌≡◌, ◌<◌, IfOk, length, map};
-ghost use Rattle.dx_ports.specs.Members.{Each};
+ghost use Rattle.dx_base.specs.Members.{Each};
 ghost use Rattle.dx_model.specs.Tables.{cell};
 ghost use Rattle.dx_instance.specs.NullMaps.{pairs_of};
 ghost use Rattle.dx_instance.specs.Numbers.{ValuesAscend};
@@ -9,10 +9,10 @@ ghost use Rattle.dx_instance.specs.Stored.{IsSorting};
 ghost use Rattle.dx_chase.specs.Joins.{nth};
 ghost use Rattle.dx_keys.specs.Numbers.{AreNumberRoots, null_map_of, null_of, steps_of};
 
+use dx_base::Items;
 use dx_chase::Step;
 use dx_instance::{Instance, NullId, NullMap, Row, Rows, Symbols, Value, copy_value};
 use dx_model::NullPair;
-use dx_ports::Items;
 use std::alloc::{AllocError, Global};
 
 // The null under a number.

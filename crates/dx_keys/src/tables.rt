@@ -5,9 +5,9 @@ ghost use Rattle.dx_schema.specs.Tables.{key_determinations, model_tables, schem
 ghost use Rattle.dx_keys.specs.Numbers.{AreTablesIn, determination_of};
 
 use crate::numbering::counted;
+use dx_base::Items;
 use dx_chase::{Columns, NumberTable};
 use dx_instance::Rows;
-use dx_ports::Items;
 use dx_schema::Schema;
 use std::alloc::{AllocError, Global};
 

@@ -1,8 +1,8 @@
 -- Employees and persons: lines and conditions with names that are there, and with names that aren't.
 use Rattle.std.proofs.Common.{◌≡◌, ℕ, List, [], ◌∷◌, Option, Some, None, codes, refl, ap, ◌∙◌, arith}
 use Rattle.dx_schema.specs.Forest.{Forest, none, set, bare_set}
-use Rattle.dx_ports.specs.Members.{here, there}
-use Rattle.dx_ports.specs.Texts.{Text}
+use Rattle.dx_base.specs.Members.{here, there}
+use Rattle.dx_base.specs.Texts.{Text}
 use Rattle.dx_tokens.specs.declared.faults.TextFault.{TextFault}
 use Rattle.dx_tokens.specs.declared.faults.TextFault.TheVariants.{At}
 use Rattle.dx_tokens.specs.declared.faults.TextKind.TheVariants.{UnknownName, Width}

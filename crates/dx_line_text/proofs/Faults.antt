@@ -2,7 +2,7 @@
 use Rattle.std.proofs.Common.{◌≡◌, ℕ, ◌≤◌, List, Option, None, length, map, drop, refl, ◌∙◌}
 use Rattle.std.proofs.lemmas.List.{drop_all}
 use Rattle.dx_tokens.specs.declared.faults.TextFault.{TextFault}
-use Rattle.dx_ports.specs.Firsts.{first_of}
+use Rattle.dx_base.specs.Firsts.{first_of}
 
 -- where nothing is left, there is no fault
 pub fault_none : {X : Type 0} (g : X → Option TextFault) (xs : List X) (i : ℕ) → length xs ≤ i

@@ -3,8 +3,8 @@ use Rattle.std.proofs.Common.{◌≡◌, ℕ, ◌<◌, ◌≤◌, take, List, []
 use Rattle.std.specs.Prelude.{eqb}
 use Rattle.std.proofs.lemmas.Bool.{eqb-true}
 use Rattle.std.proofs.lemmas.List.{get_or-map, take_all, length-map}
-use Rattle.dx_ports.specs.Members.{here, there, Each}
-use Rattle.dx_ports.proofs.Members.{from_map}
+use Rattle.dx_base.specs.Members.{here, there, Each}
+use Rattle.dx_base.proofs.Members.{from_map}
 use Rattle.dx_model.specs.Tables.{table_of}
 use Rattle.dx_schema.specs.Forest.{Forest}
 use Rattle.dx_schema.specs.Tables.{TableOf, tables_of, schema_table, as_numbers, model_tables, no_table}
@@ -22,7 +22,7 @@ use Rattle.dx_lines.specs.Limits.{IsSchemaColumn, LineFits}
 use Rattle.dx_lines.specs.Ways.{named_columns}
 use Rattle.dx_funcs.specs.Names.{first_named}
 use Rattle.dx_line_text.specs.Naming.{set_names, set_number, columns_in, name_fault, place_fault, places_fault, source_call_fault, source_fault, line_fault, lines_fault, place_of_text, code_of, origin_of, line_of_text, lines_of, IsOffered, IsOfferedFrom}
-use Rattle.dx_ports.proofs.Firsts.{two_none, each_none}
+use Rattle.dx_base.proofs.Firsts.{two_none, each_none}
 use Rattle.dx_funcs.proofs.Named.{found_listed}
 
 -- ---- places

@@ -2,11 +2,11 @@
 use Rattle.std.proofs.Common.{◌≡◌, ℕ, zero, suc, ◌<◌, List, [], ◌∷◌, Some, None, Bool, true, false, cond, length, map, get_or, refl, sym, ap, ◌∙◌, arith, nat_eq}
 use Rattle.std.specs.Cmp.Lexicographic.{pointwise, same_text, other_text}
 use Rattle.std.proofs.lemmas.List.{get_or-map}
-use Rattle.dx_ports.specs.Members.{◌∈◌, Distinct}
-use Rattle.dx_ports.proofs.Members.{in_at, in_map}
+use Rattle.dx_base.specs.Members.{◌∈◌, Distinct}
+use Rattle.dx_base.proofs.Members.{in_at, in_map}
 use Rattle.dx_schema.specs.Forest.{Forest}
 use Rattle.dx_schema.specs.Tables.{TableOf, tables_of, schema_table, number_of_name, AreTables}
-use Rattle.dx_ports.specs.Texts.{Text}
+use Rattle.dx_base.specs.Texts.{Text}
 use Rattle.dx_schema.specs.Faults.{is_among}
 use Rattle.dx_schema.proofs.Facts.{is_table}
 use Rattle.dx_schema.proofs.Valid.{among_in, in_among}

@@ -17,7 +17,7 @@ use Rattle.dx_schema_text.specs.declared.texts.OnlyText.{OnlyText}
 use Rattle.dx_funcs.specs.declared.row_test.RowTest.{RowTest}
 use Rattle.dx_line_text.specs.Conditions.{test_names, condition_fault}
 use Rattle.dx_line_text.specs.Laws.{IsOfNames, NamesAlone, UnknownAlone}
-use Rattle.dx_ports.proofs.Firsts.{first_so, one_of_two}
+use Rattle.dx_base.proofs.Firsts.{first_so, one_of_two}
 
 unknown : (place : ℕ) (e : TextFault) → Some (At place UnknownName) ≡ Some e → IsOfNames e
 unknown place e h = (place, inl (cc))

@@ -1,12 +1,12 @@
 -- Row tests by their names, and conditions without a fault.
 use Rattle.std.proofs.Common.{◌≡◌, ℕ, List, [], ◌∷◌, Some, None, Bool, true, false, cond, map, refl, sym, ap, ◌∙◌, subst, nat_eq}
 use Rattle.std.specs.Cmp.Lexicographic.{pointwise, same_text, other_text}
-use Rattle.dx_ports.specs.Members.{◌∈◌, here, there, Distinct, Each}
-use Rattle.dx_ports.proofs.Members.{in_map, from_map}
-use Rattle.dx_ports.proofs.Firsts.{two_none, each_none}
+use Rattle.dx_base.specs.Members.{◌∈◌, here, there, Distinct, Each}
+use Rattle.dx_base.proofs.Members.{in_map, from_map}
+use Rattle.dx_base.proofs.Firsts.{two_none, each_none}
 use Rattle.dx_schema.specs.Forest.{Forest}
 use Rattle.dx_schema.specs.Tables.{model_tables}
-use Rattle.dx_ports.specs.Texts.{Text}
+use Rattle.dx_base.specs.Texts.{Text}
 use Rattle.dx_schema.specs.Faults.{is_among}
 use Rattle.dx_schema.proofs.Valid.{among_in, in_among}
 use Rattle.dx_tokens.specs.declared.faults.TextFault.TheVariants.{At}

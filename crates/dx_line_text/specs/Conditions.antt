@@ -1,9 +1,9 @@
 -- What the words of conditions name: the first that is at fault, and the conditions by numbers.
 use Rattle.std.specs.Prelude.{ℕ, List, [], ◌∷◌, Option, cond, map, nat_eq}
 use Rattle.std.specs.Cmp.Lexicographic.{pointwise}
-use Rattle.dx_ports.specs.Firsts.{first_of}
-use Rattle.dx_ports.specs.Members.{◌∈◌}
-use Rattle.dx_ports.specs.Texts.{Text}
+use Rattle.dx_base.specs.Firsts.{first_of}
+use Rattle.dx_base.specs.Members.{◌∈◌}
+use Rattle.dx_base.specs.Texts.{Text}
 use Rattle.dx_schema.specs.Forest.{Forest}
 use Rattle.dx_funcs.specs.declared.row_test.RowTest.{RowTest}
 use Rattle.dx_tokens.specs.declared.faults.TextFault.{TextFault}

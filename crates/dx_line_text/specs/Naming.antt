@@ -1,7 +1,7 @@
 -- What the words of lines name: the first that is at fault, and the lines by numbers.
 use Rattle.std.specs.Prelude.{ℕ, List, [], ◌∷◌, Option, Some, None, cond, eqb, length, map}
-use Rattle.dx_ports.specs.Texts.{Text}
-use Rattle.dx_ports.specs.Firsts.{first_of}
+use Rattle.dx_base.specs.Texts.{Text}
+use Rattle.dx_base.specs.Firsts.{first_of}
 use Rattle.dx_schema.specs.Forest.{Forest}
 use Rattle.dx_schema.specs.Tables.{TableOf, tables_of, schema_table, number_of_name}
 use Rattle.dx_schema.specs.Faults.{is_among}

@@ -1,6 +1,6 @@
 // Conditions, by the numbers of what they name.
 ghost use Rattle.std.specs.Prelude.{◌≡◌, ◌⊎◌, None, Some, IfErr, IfOk, OnOk};
-ghost use Rattle.dx_ports.specs.Members.{Each};
+ghost use Rattle.dx_base.specs.Members.{Each};
 ghost use Rattle.dx_schema.specs.Tables.{model_tables};
 ghost use Rattle.dx_funcs.specs.Judging.{tested};
 ghost use Rattle.dx_tokens.specs.declared.faults.TextFault.TheVariants.{Memory};
@@ -10,9 +10,9 @@ ghost use Rattle.dx_line_text.specs.Naming.{name_fault};
 ghost use Rattle.dx_line_text.specs.Conditions.{condition_fault, condition_of, conditions_fault, conditions_of, test_code, test_names, ConditionIsListed};
 
 use crate::places::read_place;
+use dx_base::{Items, Text};
 use dx_funcs::{Meaning, Tests};
 use dx_lines::Condition;
-use dx_ports::{Items, Text};
 use dx_schema::Schema;
 use dx_schema_text::OnlyText;
 use dx_tokens::{TextFault, TextKind};

@@ -1,6 +1,6 @@
 // Lines, by the numbers of what they name.
 ghost use Rattle.std.specs.Prelude.{◌≡◌, ◌⊎◌, None, Some, IfErr, IfOk, OnOk};
-ghost use Rattle.dx_ports.specs.Members.{Each};
+ghost use Rattle.dx_base.specs.Members.{Each};
 ghost use Rattle.dx_schema.specs.Tables.{model_tables};
 ghost use Rattle.dx_funcs.specs.Names.{first_named};
 ghost use Rattle.dx_funcs.specs.Serving.{offered};
@@ -10,9 +10,9 @@ ghost use Rattle.dx_line_text.specs.Answers.{ReadsOrMemory};
 ghost use Rattle.dx_line_text.specs.Naming.{source_call_fault, call_of, line_fault, line_of_text, lines_fault, lines_of, origin_of, source_fault, IsOffered};
 
 use crate::places::{read_place, read_places};
+use dx_base::{Items, Text};
 use dx_funcs::{Host, Meaning};
 use dx_lines::{Line, Origin};
-use dx_ports::{Items, Text};
 use dx_schema::Schema;
 use dx_schema_text::{LineText, PlaceText, SourceText};
 use dx_tokens::{TextFault, TextKind};

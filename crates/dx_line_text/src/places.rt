@@ -3,8 +3,8 @@ ghost use Rattle.std.specs.Prelude.{map};
 ghost use Rattle.dx_line_text.specs.Answers.{AnswersOrFault, ReadsOrMemory};
 ghost use Rattle.dx_line_text.specs.Naming.{place_fault, place_of_text, places_fault};
 
+use dx_base::Items;
 use dx_lines::Place;
-use dx_ports::Items;
 use dx_schema::Schema;
 use dx_schema_text::PlaceText;
 use dx_tokens::{TextFault, TextKind};

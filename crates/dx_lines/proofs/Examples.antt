@@ -7,7 +7,7 @@ use Rattle.dx_model.specs.declared.rules.Cell.{Cell}
 use Rattle.dx_model.specs.declared.rules.Cell.TheVariants.{Var, Ex, Lit}
 use Rattle.dx_model.specs.declared.rules.Atom.{Atom}
 use Rattle.dx_model.specs.declared.rules.Rule.{Rule}
-use Rattle.dx_ports.specs.declared.file.Count.TheVariants as counts
+use Rattle.dx_base.specs.declared.file.Count.TheVariants as counts
 use Rattle.dx_lines.specs.declared.line.Place.{Place}
 use Rattle.dx_lines.specs.declared.line.Origin.TheVariants.{Column, Literal, Call as Converted}
 use Rattle.dx_lines.specs.declared.line.Line.{Line}
@@ -24,7 +24,7 @@ use Rattle.dx_lines.specs.Rules.{kept_rules}
 use Rattle.dx_lines.specs.Limits.{passed_limit, IsSchemaColumn, LineFits}
 use Rattle.dx_lines.specs.Reading.{HaveColumn, CanBeRead, IsReached}
 use Rattle.dx_logical.specs.declared.relation.Occurrence.{Occurrence}
-use Rattle.dx_ports.specs.Members.{here, there}
+use Rattle.dx_base.specs.Members.{here, there}
 
 abbrev table : ℕ → List Link → Table
 table w ls = record { width = w; determinations = []; links = ls; optional = [] }

@@ -1,10 +1,10 @@
 -- The limits of lines between two schemas.
 use Rattle.std.specs.Prelude.{ℕ, suc, ◌<◌, Bool, cond, nat_lt, Option, Some, None, List, [], ◌∷◌, ◌++◌, map, flat_map, length}
 use Rattle.std.specs.List.{list_any}
-use Rattle.dx_ports.specs.declared.file.Limit.{Limit}
-use Rattle.dx_ports.specs.declared.file.Count.TheVariants.{Variants, Occurrences, Ways, Candidates}
-use Rattle.dx_ports.specs.declared.limits.TheConstants.{VARIANTS, OCCURRENCES, WAYS, CANDIDATES}
-use Rattle.dx_ports.specs.Members.{Each}
+use Rattle.dx_base.specs.declared.file.Limit.{Limit}
+use Rattle.dx_base.specs.declared.file.Count.TheVariants.{Variants, Occurrences, Ways, Candidates}
+use Rattle.dx_base.specs.declared.limits.TheConstants.{VARIANTS, OCCURRENCES, WAYS, CANDIDATES}
+use Rattle.dx_base.specs.Members.{Each}
 use Rattle.dx_model.specs.Tables.{Table, table_of}
 use Rattle.dx_logical.specs.declared.relation.Relation.{Relation}
 use Rattle.dx_logical.specs.Unfolding.{variants_of}

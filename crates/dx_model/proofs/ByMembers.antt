@@ -7,8 +7,8 @@ use Rattle.dx_model.specs.declared.values.Value.{Value}
 use Rattle.dx_model.specs.declared.values.Value.TheVariants.{Const, Null}
 use Rattle.dx_model.specs.declared.facts.Fact.{Fact}
 use Rattle.dx_model.specs.declared.facts.NullPair.{NullPair}
-use Rattle.dx_ports.specs.Members.{◌∈◌, ◌⊆◌}
-use Rattle.dx_ports.proofs.Members.{in_map, from_map, in_flat_map, from_flat_map}
+use Rattle.dx_base.specs.Members.{◌∈◌, ◌⊆◌}
+use Rattle.dx_base.proofs.Members.{in_map, from_map, in_flat_map, from_flat_map}
 use Rattle.dx_model.specs.Values.{value_cmp}
 use Rattle.dx_model.specs.Instances.{moved, fact_moved, given, values, image, IsHomomorphism}
 use Rattle.dx_model.specs.Tables.{Table, FactFits}

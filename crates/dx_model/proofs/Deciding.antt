@@ -11,11 +11,11 @@ use Rattle.dx_model.specs.declared.rules.Cell.TheVariants.{Var, Ex, Lit}
 use Rattle.dx_model.specs.declared.rules.Atom.{Atom}
 use Rattle.dx_model.specs.declared.rules.Derived.{Derived}
 use Rattle.dx_model.specs.declared.rules.Rule.{Rule}
-use Rattle.dx_ports.specs.Members.{◌∈◌, ◌⊆◌, here, there, Each}
-use Rattle.dx_ports.proofs.Members.{from_append, in_map, in_flat_map, from_flat_map}
-use Rattle.dx_ports.proofs.Tests.{from_filter}
+use Rattle.dx_base.specs.Members.{◌∈◌, ◌⊆◌, here, there, Each}
+use Rattle.dx_base.proofs.Members.{from_append, in_map, in_flat_map, from_flat_map}
+use Rattle.dx_base.proofs.Tests.{from_filter}
 use Rattle.dx_model.specs.Values.{Conversions}
-use Rattle.dx_ports.specs.Texts.{Text}
+use Rattle.dx_base.specs.Texts.{Text}
 use Rattle.dx_model.specs.Instances.{values}
 use Rattle.dx_model.specs.Rules.{cell_value, fact_of_atom, cells_of, existential_in, existentials, canonical}
 use Rattle.dx_model.specs.Fitting.{IsRule}

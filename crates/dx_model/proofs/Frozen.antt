@@ -15,9 +15,9 @@ use Rattle.dx_model.specs.declared.rules.Cell.{Cell}
 use Rattle.dx_model.specs.declared.rules.Cell.TheVariants.{Var, Ex, Lit}
 use Rattle.dx_model.specs.declared.rules.Atom.{Atom}
 use Rattle.dx_model.specs.declared.rules.Rule.{Rule}
-use Rattle.dx_ports.specs.Members.{◌∈◌, here, there}
+use Rattle.dx_base.specs.Members.{◌∈◌, here, there}
 use Rattle.dx_model.specs.Rules.{cell_value, fact_of_atom, cells_of, AreRows, canonical, premise_fact, IsMatch}
-use Rattle.dx_ports.proofs.Members.{from_map, in_map, in_left, in_right, in_flat_map, from_flat_map, from_append}
+use Rattle.dx_base.proofs.Members.{from_map, in_map, in_left, in_right, in_flat_map, from_flat_map, from_append}
 use Rattle.dx_model.specs.Following.{Follows, frozen, CanBeFrozen, frozen_text, IsClean}
 use Rattle.dx_model.specs.Fitting.{ByFirstAppearance, IsVariable, cell_variable, premise_variables, IsRule}
 use Rattle.dx_model.specs.Covers.{below}

@@ -5,8 +5,8 @@ use Rattle.dx_model.specs.declared.values.NullId.{NullId}
 use Rattle.dx_model.specs.declared.values.Value.{Value}
 use Rattle.dx_model.specs.declared.values.Value.TheVariants.{Null}
 use Rattle.dx_model.specs.declared.facts.Fact.{Fact}
-use Rattle.dx_ports.specs.Members.{◌∈◌, ◌⊆◌, here, there, Each}
-use Rattle.dx_ports.proofs.Members.{in_flat_map, from_flat_map}
+use Rattle.dx_base.specs.Members.{◌∈◌, ◌⊆◌, here, there, Each}
+use Rattle.dx_base.proofs.Members.{in_flat_map, from_flat_map}
 use Rattle.dx_model.specs.Instances.{values, Moves}
 use Rattle.dx_model.specs.Blocks.{IsClosedPart}
 use Rattle.dx_model.specs.Laws.{PartsJoin}

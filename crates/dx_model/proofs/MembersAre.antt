@@ -4,10 +4,10 @@ use Rattle.dx_model.specs.declared.values.Value.{Value}
 use Rattle.dx_model.specs.declared.values.Value.TheVariants.{Null}
 use Rattle.dx_model.specs.declared.facts.Fact.{Fact}
 use Rattle.dx_model.specs.declared.rules.Rule.{Rule}
-use Rattle.dx_ports.specs.Members.{◌∈◌}
-use Rattle.dx_ports.proofs.Members.{in_map, from_map}
+use Rattle.dx_base.specs.Members.{◌∈◌}
+use Rattle.dx_base.proofs.Members.{in_map, from_map}
 use Rattle.dx_model.specs.Values.{Rows}
-use Rattle.dx_ports.specs.Texts.{Text}
+use Rattle.dx_base.specs.Texts.{Text}
 use Rattle.dx_model.specs.Rules.{fact_of_atom, exported, text_of, at_place}
 use Rattle.dx_model.specs.Covers.{SaysAt, rule_at, tuple_at}
 use Rattle.dx_model.specs.Laws.{CanonicalAre, UncoveredAre}

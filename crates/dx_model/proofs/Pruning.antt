@@ -10,11 +10,11 @@ use Rattle.dx_model.specs.declared.rules.Cell.{Cell}
 use Rattle.dx_model.specs.declared.rules.Cell.TheVariants.{Var, Ex, Lit}
 use Rattle.dx_model.specs.declared.rules.Atom.{Atom}
 use Rattle.dx_model.specs.declared.rules.Rule.{Rule}
-use Rattle.dx_ports.specs.Members.{◌∈◌, ◌⊆◌, here, there, Each}
-use Rattle.dx_ports.proofs.Members.{in_left, in_right, from_append, from_flat_map}
-use Rattle.dx_ports.proofs.Tests.{from_filter}
+use Rattle.dx_base.specs.Members.{◌∈◌, ◌⊆◌, here, there, Each}
+use Rattle.dx_base.proofs.Members.{in_left, in_right, from_append, from_flat_map}
+use Rattle.dx_base.proofs.Tests.{from_filter}
 use Rattle.dx_model.specs.Values.{Conversions}
-use Rattle.dx_ports.specs.Texts.{Text}
+use Rattle.dx_base.specs.Texts.{Text}
 use Rattle.dx_model.specs.Instances.{HoldsConstants}
 use Rattle.dx_model.specs.Tables.{Table, table_of, FactFits}
 use Rattle.dx_model.specs.Rules.{cell_value, fact_of_atom, premise_fact, Satisfies}

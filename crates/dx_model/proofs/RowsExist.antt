@@ -12,11 +12,11 @@ use Rattle.dx_model.specs.declared.rules.Cell.TheVariants.{Var, Ex, Lit}
 use Rattle.dx_model.specs.declared.rules.Atom.{Atom}
 use Rattle.dx_model.specs.declared.rules.Derived.{Derived}
 use Rattle.dx_model.specs.declared.rules.Rule.{Rule}
-use Rattle.dx_ports.specs.Members.{◌∈◌, ◌⊆◌, here, there, Each}
-use Rattle.dx_ports.proofs.Members.{in_map, from_map, in_right, in_flat_map, from_flat_map}
-use Rattle.dx_ports.proofs.Tests.{map_same}
+use Rattle.dx_base.specs.Members.{◌∈◌, ◌⊆◌, here, there, Each}
+use Rattle.dx_base.proofs.Members.{in_map, from_map, in_right, in_flat_map, from_flat_map}
+use Rattle.dx_base.proofs.Tests.{map_same}
 use Rattle.dx_model.specs.Values.{Tuple, Conversions, tuple_cmp}
-use Rattle.dx_ports.specs.Texts.{Text}
+use Rattle.dx_base.specs.Texts.{Text}
 use Rattle.dx_model.specs.Tables.{AreWithin}
 use Rattle.dx_model.specs.Rules.{cell_value, premise_fact, after_cells, cells_of, Derive, IsMatch, exported, text_of}
 use Rattle.dx_model.specs.Fitting.{ByFirstAppearance, cell_variable, premise_variables, IsRule}

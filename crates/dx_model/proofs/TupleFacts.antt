@@ -2,7 +2,7 @@
 use Rattle.std.proofs.Common.{◌≡◌, ◌∙◌, ◌+◌, ◌*◌, ◌-◌, ◌<◌, ◌≤◌, ◌++◌, ◌∷◌, ℕ, zero, suc, List, [], refl, sym, ap, arith, length, get_or, take, drop, add-one}
 use Rattle.std.proofs.lemmas.List.{length-drop, drop-drop, take_all, take-append-le, drop-append-le, nil_from_length}
 use Rattle.dx_model.specs.Values.{Tuple}
-use Rattle.dx_ports.specs.Texts.{Text}
+use Rattle.dx_base.specs.Texts.{Text}
 use Rattle.dx_model.specs.Tuples.{in_tuples}
 
 pub length_tuples : (n w : ℕ) (texts : List Text) → length (in_tuples n w texts) ≡ n

@@ -4,8 +4,8 @@ use Rattle.std.specs.Prelude.{map, slice_get, slice_index_or}
 use Rattle.std.proofs.lemmas.Bool.{cases_Bool, eqb-true, eqb-false}
 use Rattle.dx_model.specs.declared.rules.Atom.{Atom}
 use Rattle.dx_model.specs.declared.rules.Rule.{Rule}
-use Rattle.dx_ports.specs.Members.{◌∈◌, here, there, Each}
-use Rattle.dx_ports.proofs.Members.{in_flat_map}
+use Rattle.dx_base.specs.Members.{◌∈◌, here, there, Each}
+use Rattle.dx_base.proofs.Members.{in_flat_map}
 use Rattle.dx_model.specs.Tables.{Table}
 use Rattle.dx_model.specs.Fitting.{conclusions_of}
 use Rattle.dx_model.specs.Laws.{FitsByWidths, AtomWidthsAgree, RulesHaveWidths}

@@ -2,8 +2,8 @@
 use Rattle.std.specs.Prelude.{◌≡◌, ℕ, zero, suc, ◌<◌, ◌⊎◌, Bool, true, false, not, cond, eqb, nat_lt, ◌&&◌, ◌||◌, Option, None, Some, List, [], ◌∷◌, ◌++◌, map, flat_map, length, take, slice_index_or}
 use Rattle.std.specs.List.{filter, find, list_all}
 use Rattle.std.specs.Str.{bytes_eq}
-use Rattle.dx_ports.specs.Members.{◌∈◌, Each}
-use Rattle.dx_ports.specs.Texts.{Text}
+use Rattle.dx_base.specs.Members.{◌∈◌, Each}
+use Rattle.dx_base.specs.Texts.{Text}
 use Rattle.dx_model.specs.declared.values.NullId.{NullId}
 use Rattle.dx_model.specs.declared.values.Value.{Value}
 use Rattle.dx_model.specs.declared.values.Value.TheVariants.{Const, Null}

@@ -1,6 +1,6 @@
 -- Tuples of texts, as they lie one after the other.
 use Rattle.std.specs.Prelude.{ℕ, zero, suc, List, [], ◌∷◌, take, drop}
-use Rattle.dx_ports.specs.Texts.{Text}
+use Rattle.dx_base.specs.Texts.{Text}
 use Rattle.dx_model.specs.Values.{Tuple}
 
 -- the first n tuples of so many texts each

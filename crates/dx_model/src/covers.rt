@@ -1,5 +1,5 @@
 use crate::rules::Cell;
-use dx_ports::Items;
+use dx_base::Items;
 
 /// A cell of one row, and the cell of another row that stands in its column.
 #[derive(Drop)]

@@ -2,7 +2,7 @@
 ghost use Rattle.std.specs.Prelude.{◌≡◌, ◌<◌, ◌*◌, [], length, slice_index_or};
 ghost use Rattle.dx_model.specs.Tuples.{in_tuples};
 
-use dx_ports::Text;
+use dx_base::Text;
 use std::marker::Model;
 
 /// Tuples of one width. A contract sees the list of the tuples, each the list of its texts.

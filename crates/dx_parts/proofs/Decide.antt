@@ -4,8 +4,8 @@ use Rattle.std.specs.Prelude.{Bool, true, false, not, map, Option}
 use Rattle.std.specs.List.{list_any}
 use Rattle.std.specs.Ordering.{is_eq}
 use Rattle.std.proofs.lemmas.Bool.{cases_Bool, eqb-true, ne_eqb, and_parts, and_from, true≢false}
-use Rattle.dx_ports.specs.Members.{◌∈◌, ◌⊆◌, here, there}
-use Rattle.dx_ports.proofs.Members.{in_map, from_map, in_left, in_right, from_append, from_flat_map, in_flat_map}
+use Rattle.dx_base.specs.Members.{◌∈◌, ◌⊆◌, here, there}
+use Rattle.dx_base.proofs.Members.{in_map, from_map, in_left, in_right, from_append, from_flat_map, in_flat_map}
 use Rattle.dx_model.specs.Tables.{Table}
 use Rattle.dx_logical.specs.declared.relation.Occurrence.{Occurrence}
 use Rattle.dx_logical.specs.declared.relation.Relation.{Relation}
@@ -25,7 +25,7 @@ use Rattle.dx_parts.specs.Laws.{GreatestPartsDecide}
 use Rattle.dx_parts.specs.Parts.{is_first, is_child, children, is_tip, tips, without, greatest_proper_parts, source_parts, target_parts, greatest_parts, are_among, is_in_proper_part}
 use Rattle.dx_parts.proofs.Lists.{in_upto}
 use Rattle.dx_parts.proofs.Tree.{HasSubtrees, part_in_sub, sub_in_part, part_within, whole_has_all, is_below, has_tip, part_in_without, without_in_part, open_in_whole, before}
-use Rattle.dx_ports.proofs.Tests.{from_any, to_any, from_all, to_all, from_filter, to_filter, same_test}
+use Rattle.dx_base.proofs.Tests.{from_any, to_any, from_all, to_all, from_filter, to_filter, same_test}
 
 -- more ways have more picks
 among_grow : (found more : List Pick) (k : Pick) → found ⊆ more → is_pick_among found k ≡ true → is_pick_among more k ≡ true

@@ -4,8 +4,8 @@ use Rattle.std.specs.Prelude.{Bool, true, false, ◌&&◌, nat_le, nat_lt, Optio
 use Rattle.std.specs.List.{prefix_len}
 use Rattle.std.proofs.lemmas.Bool.{and_parts, and_from, ltb-true, lt-ltb, le-leb, ne_eqb, true≢false}
 use Rattle.std.proofs.lemmas.List.{get_or_default, length-take, length-drop}
-use Rattle.dx_ports.specs.Members.{◌∈◌, here}
-use Rattle.dx_ports.proofs.Tests.{from_filter, to_filter}
+use Rattle.dx_base.specs.Members.{◌∈◌, here}
+use Rattle.dx_base.proofs.Tests.{from_filter, to_filter}
 use Rattle.dx_model.specs.declared.tables.Link.{Link}
 use Rattle.dx_model.specs.Tables.{Table, table_of}
 use Rattle.dx_schema.specs.Forest.{Forest}

@@ -3,9 +3,9 @@ use Rattle.std.proofs.Common.{◌≡◌, ℕ, ◌<◌, eqb, ◌&&◌, List, [], 
 use Rattle.std.specs.Prelude.{Bool, true, false, not}
 use Rattle.std.specs.List.{list_any}
 use Rattle.std.proofs.lemmas.Bool.{and_parts, and_from, leb-true, false≢true}
-use Rattle.dx_ports.specs.Members.{◌∈◌, here, there}
-use Rattle.dx_ports.proofs.Lists.{none_or_some}
-use Rattle.dx_ports.proofs.Tests.{from_any, to_any, from_filter, same_test}
+use Rattle.dx_base.specs.Members.{◌∈◌, here, there}
+use Rattle.dx_base.proofs.Lists.{none_or_some}
+use Rattle.dx_base.proofs.Tests.{from_any, to_any, from_filter, same_test}
 use Rattle.dx_model.specs.Tables.{Table, table_of}
 use Rattle.dx_logical.specs.declared.relation.Relation.{Relation}
 use Rattle.dx_logical.specs.Unfolding.{sub}

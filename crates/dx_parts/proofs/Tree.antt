@@ -4,10 +4,10 @@ use Rattle.std.specs.Prelude.{true, false, not, ◌&&◌, nat_le, nat_lt, Option
 use Rattle.std.specs.List.{filter, list_any}
 use Rattle.std.proofs.lemmas.Bool.{cases_lt, cases_Bool, and_parts, and_from, leb-true, le-leb, ltb-true, lt-ltb, not-true, false≢true, true≢false}
 use Rattle.std.proofs.lemmas.List.{length-take-le, get_or-take, get_or-drop, length-drop}
-use Rattle.dx_ports.specs.Members.{◌∈◌, ◌⊆◌, here}
-use Rattle.dx_ports.proofs.Lists.{none_or_some}
-use Rattle.dx_ports.proofs.Members.{in_at, in_left, in_right, in_map, from_map, from_append}
-use Rattle.dx_ports.proofs.Tests.{none_of, from_filter, to_filter}
+use Rattle.dx_base.specs.Members.{◌∈◌, ◌⊆◌, here}
+use Rattle.dx_base.proofs.Lists.{none_or_some}
+use Rattle.dx_base.proofs.Members.{in_at, in_left, in_right, in_map, from_map, from_append}
+use Rattle.dx_base.proofs.Tests.{none_of, from_filter, to_filter}
 use Rattle.dx_model.specs.Tables.{Table}
 use Rattle.dx_logical.specs.declared.relation.Occurrence.{Occurrence}
 use Rattle.dx_logical.specs.declared.relation.Relation.{Relation}

@@ -1,11 +1,3 @@
-pub mod Members
-pub mod Loops
 pub mod Held
+pub mod Logs
 pub mod Prefixes
-pub mod Ranges
-pub mod Tests
-pub mod Firsts
-mod Buffers
-mod LimitExamples
-pub mod Lists
-pub mod Options

@@ -1,11 +1,11 @@
 // What is read from: files by name.
 ghost use Rattle.std.specs.Prelude.{◌≡◌, ◌≤◌, ◌<◌, [], length, Some, None, OnOk, OnErr, IfSome, IsErrOf, IsSomeAnd};
 ghost use Rattle.std.specs.FinMap.{get};
-ghost use Rattle.dx_ports.specs.States.{InputState};
+ghost use Rattle.dx_ports.specs.States.{InputState, answered_then};
 ghost use Rattle.dx_ports.specs.Faults.{Rose};
 ghost use Rattle.dx_ports.specs.declared.inputs.FetchFault.TheVariants.{Memory};
 
-use crate::Text;
+use dx_base::Text;
 use std::alloc::AllocError;
 use thiserror::Error;
 
@@ -32,8 +32,8 @@ impl From<AllocError> for FetchFault {
 
 /// What is read from. No call changes what it holds.
 pub trait Inputs {
-    /// What it tells: the bytes by name, how many reads have failed, and the name at which one failed. A call that
-    /// does not fail changes none of it.
+    /// What it tells: the bytes by name, what the reads have answered, how many have failed, and the name at which one failed. A call
+    /// that does not fail changes none of it but what was answered.
     ghost state: { Self → InputState };
 
     /// The bytes of a file of at most `limit` bytes; a longer one is refused. They are put into `into`, in place of
@@ -47,6 +47,7 @@ pub trait Inputs {
     fn fetch(&mut self, name: &Text, limit: u64, into: &mut Vec<u8>) -> Result<(), FetchFault>
         ensures kept { (state self.new).holds ≡ (state self.old).holds }
         ensures counted { (state self.old).faults ≤ (state self.new).faults }
+        ensures answered { (state self.new).answered ≡ answered_then (state self.old).answered name.now result into.new.items }
 
         ensures bytes { IfSome (state self.old).holds (λ m. OnOk result (get m name.now ≡ Some into.new.items)) }
         ensures bound { OnOk result (length into.new.items ≤ limit) }

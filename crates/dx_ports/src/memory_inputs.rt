@@ -2,10 +2,12 @@
 ghost use Rattle.std.specs.Prelude.{◌≡◌, ◌≤◌, ◌<◌, [], length, Option, Some, None, OnOk, OnErr, IfSome, IsErrOf, IsSomeAnd, Contains, min, ◌+◌, ◌-◌, ◌^◌, ◌⊎◌};
 ghost use Rattle.std.specs.Option.{option_copied};
 ghost use Rattle.std.specs.FinMap.{get};
-ghost use Rattle.dx_ports.specs.Entries.{file_map};
+ghost use Rattle.dx_base.specs.Entries.{file_map};
 ghost use Rattle.dx_ports.specs.Faults.{Rose};
+ghost use Rattle.dx_ports.specs.States.{answered_then};
 
-use crate::{FetchFault, File, Inputs, Text};
+use crate::{FetchFault, Inputs, ReadLog};
+use dx_base::{File, Text};
 use std::alloc::Global;
 
 /// Inputs in memory. They tell the files that they hold, and after a fault of reading the name.
@@ -16,6 +18,7 @@ pub struct MemInputs {
     calls: u64,
     faults: u64,
     stopped: Option<Text>,
+    log: ReadLog,
 }
 
 impl MemInputs {
@@ -25,6 +28,7 @@ impl MemInputs {
     /// from 0.
     pub fn new(files: Vec<File>, fails: Vec<u64>) -> MemInputs
         ensures holds { (⟦<MemInputs as Inputs>⟧.state result).holds ≡ Some (file_map files.items) }
+        ensures answered { (⟦<MemInputs as Inputs>⟧.state result).answered ≡ [] }
         ensures faults { (⟦<MemInputs as Inputs>⟧.state result).faults ≡ 0 }
         ensures stopped { (⟦<MemInputs as Inputs>⟧.state result).stopped ≡ None }
         ensures calls { next_call result ≡ 0 }
@@ -36,6 +40,7 @@ impl MemInputs {
             calls: 0,
             faults: 0,
             stopped: None,
+            log: ReadLog::new(),
         }
     }
 }
@@ -55,11 +60,18 @@ pub fn bytes_named<'a>(files: &'a [File], name: &Text) -> Option<&'a [u8]>
 impl Inputs for MemInputs {
     ghost use Rattle.dx_ports.specs.MemInputs.{next_call, failing_calls};
 
-    ghost state = { λ m. record { holds = Some (file_map m.files.items); faults = m.faults; stopped = m.stopped } };
+    ghost state = { λ m. record {
+      holds = Some (file_map m.files.items);
+      answered = m.log.answers;
+      faults = m.faults;
+      stopped = m.stopped;
+    } };
 
     fn fetch(&mut self, name: &Text, limit: u64, into: &mut Vec<u8>) -> Result<(), FetchFault>
         ensures kept { (⟦<MemInputs as Inputs>⟧.state self.new).holds ≡ (⟦<MemInputs as Inputs>⟧.state self.old).holds }
         ensures counted { (⟦<MemInputs as Inputs>⟧.state self.old).faults ≤ (⟦<MemInputs as Inputs>⟧.state self.new).faults }
+        ensures answered { (⟦<MemInputs as Inputs>⟧.state self.new).answered
+            ≡ answered_then (⟦<MemInputs as Inputs>⟧.state self.old).answered name.now result into.new.items }
         ensures bytes { IfSome (⟦<MemInputs as Inputs>⟧.state self.old).holds
             (λ m. OnOk result (get m name.now ≡ Some into.new.items)) }
         ensures bound { OnOk result (length into.new.items ≤ limit) }
@@ -97,12 +109,14 @@ impl Inputs for MemInputs {
             return Err(FetchFault::Failed);
         }
         let Some(bytes) = bytes_named(&self.files, name) else {
+            self.log.missed(name.bytes());
             return Err(FetchFault::Absent);
         };
         if bytes.len() as u64 > limit {
             return Err(FetchFault::Long);
         }
         into.extend_from_slice(bytes)?;
+        self.log.found(name.bytes(), into);
         Ok(())
     }
 }

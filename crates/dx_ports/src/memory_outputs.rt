@@ -1,10 +1,12 @@
 // Outputs in memory, which can be made to fail.
 ghost use Rattle.std.specs.Prelude.{◌≡◌, [], ◌∷◌, Some, OnOk, OnErr, IsErrOf, IsTrue, Contains, min, take, ◌↔◌, ◌⊎◌, ◌+◌, ◌-◌, ◌^◌, ◌≤◌, ◌<◌};
 ghost use Rattle.std.specs.Bool.{OnTrue, MatchBool};
-ghost use Rattle.dx_ports.specs.Entries.{entries_of, appended, GrewByPrefix};
+ghost use Rattle.dx_base.specs.Entries.{entries_of};
+ghost use Rattle.dx_ports.specs.Told.{appended, GrewByPrefix};
 ghost use Rattle.dx_ports.specs.Faults.{Rose};
 
-use crate::{File, Outputs, PutFault, Text};
+use crate::{Outputs, PutFault};
+use dx_base::{File, Text};
 use std::alloc::Global;
 
 /// Outputs in memory. They tell what was put and said, and start with nothing.

@@ -1,11 +1,11 @@
 // What is written to: files by name, and a text that is said.
 ghost use Rattle.std.specs.Prelude.{◌≡◌, ℕ, ◌≤◌, [], ◌∷◌, OnOk, OnErr, IsErrOf};
-ghost use Rattle.dx_ports.specs.Entries.{appended, GrewByPrefix};
+ghost use Rattle.dx_ports.specs.Told.{appended, GrewByPrefix};
 ghost use Rattle.dx_ports.specs.Faults.{Rose};
 ghost use Rattle.dx_ports.specs.States.{OutputState};
 ghost use Rattle.dx_ports.specs.declared.outputs.PutFault.TheVariants.{Memory};
 
-use crate::Text;
+use dx_base::Text;
 use std::alloc::{AllocError, AllocFailed};
 use thiserror::Error;
 

@@ -2,15 +2,15 @@
 use Rattle.std.proofs.Common.{◌≡◌, ◌<◌, ◌≤◌, ℕ, zero, suc, List, [], ◌∷◌, length, replicate, refl, ap, subst, arith}
 use Rattle.std.specs.Prelude.{get_or}
 use Rattle.std.proofs.lemmas.List.{length-replicate}
-use Rattle.dx_ports.specs.Members.{◌∈◌, Each, here, there}
-use Rattle.dx_ports.specs.declared.limits.TheConstants.{QUERY_ATOMS}
+use Rattle.dx_base.specs.Members.{◌∈◌, Each, here, there}
+use Rattle.dx_base.specs.declared.limits.TheConstants.{QUERY_ATOMS}
 use Rattle.dx_model.specs.declared.values.Value.{Value}
 use Rattle.dx_model.specs.declared.values.Value.TheVariants.{Const, Null}
 use Rattle.dx_model.specs.declared.facts.Fact.{Fact}
 use Rattle.dx_model.specs.declared.rules.Cell.{Cell}
 use Rattle.dx_model.specs.declared.rules.Cell.TheVariants.{Var, Ex, Lit}
 use Rattle.dx_model.specs.declared.rules.Atom.{Atom}
-use Rattle.dx_ports.specs.Texts.{Text}
+use Rattle.dx_base.specs.Texts.{Text}
 use Rattle.dx_model.specs.Rules.{cells_of}
 use Rattle.dx_model.specs.Fitting.{AtomsFitWidths}
 use Rattle.dx_queries.specs.declared.query.Part.{Part}

@@ -2,9 +2,9 @@
 use Rattle.std.proofs.Common.{◌≡◌, ◌⊎◌, ℕ, List, [], ◌∷◌, false, inl, inr, length, refl, sym, ◌∙◌, ap, subst, arith}
 use Rattle.std.specs.Prelude.{◌*◌, cond, eqb, map, flat_map}
 use Rattle.std.proofs.lemmas.Bool.{cases_Bool, cases_order, eqb-true}
-use Rattle.dx_ports.specs.Members.{◌∈◌, here, there, Each}
-use Rattle.dx_ports.proofs.Members.{from_flat_map, from_map, in_flat_map, in_map}
-use Rattle.dx_ports.proofs.Tests.{map_same}
+use Rattle.dx_base.specs.Members.{◌∈◌, here, there, Each}
+use Rattle.dx_base.proofs.Members.{from_flat_map, from_map, in_flat_map, in_map}
+use Rattle.dx_base.proofs.Tests.{map_same}
 use Rattle.dx_model.specs.declared.values.Value.{Value}
 use Rattle.dx_model.specs.declared.values.Value.TheVariants.{Const, Null}
 use Rattle.dx_model.specs.declared.facts.Fact.{Fact}

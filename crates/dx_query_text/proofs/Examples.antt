@@ -1,6 +1,6 @@
 -- Small query texts over a target: the query that each says, or its first fault, computed.
 use Rattle.std.proofs.Common.{◌≡◌, ◌≤◌, ℕ, zero, suc, List, [], ◌∷◌, Result, Ok, Err, codes, refl, subst, inl, inr, arith, length}
-use Rattle.dx_ports.specs.Members.{here, there}
+use Rattle.dx_base.specs.Members.{here, there}
 use Rattle.dx_model.specs.declared.rules.Cell.TheVariants.{Var, Lit}
 use Rattle.dx_model.specs.declared.rules.Atom.{Atom}
 use Rattle.dx_schema.specs.Forest.{Forest, none, set, bare_set}
@@ -15,7 +15,8 @@ use Rattle.dx_queries.specs.declared.query.Part.{Part}
 use Rattle.dx_queries.specs.declared.query.Query.{Query}
 use Rattle.dx_query_text.specs.Queries.{HasFewAtoms, IsQueryFaultOrMemory, read_over}
 use Rattle.dx_query_text.specs.Reading.{part_reader, query_reader}
-use Rattle.dx_query_text.specs.Texts.{query_of_tokens}
+use Rattle.dx_query_text.specs.declared.texts.PartText.{PartText}
+use Rattle.dx_query_text.specs.Texts.{IsQueryText, query_of_tokens}
 use Rattle.dx_query_text.proofs.Over.{never_said_and_faulty, reads_query}
 
 -- person(name, num), and unit(#id, uname) with the inner set staff(#up, sname)
@@ -133,6 +134,11 @@ byte_then = refl
 byte_behind_all : read (codes "query 1; answer(n) from person(n, t); $") ≡ Err (At 38 Character)
 unfolding read
 byte_behind_all = refl
+
+-- it says no query, though the tokens before that byte spell one
+says_no_query : (parts : List PartText) → ¬ IsQueryText (codes "query 1; answer(n) from person(n, t); $") parts
+unfolding read
+says_no_query parts h = absurd (cc h.no_stop)
 
 -- a fault of the text comes before each of its names
 text_first : read (codes "query 1; answer(z) from persons(n); $") ≡ Err (At 36 Character)

@@ -3,7 +3,7 @@ use Rattle.std.proofs.Common.{◌+◌, ◌<◌, ◌≤◌, ◌-◌, ◌^◌, ℕ
 use Rattle.dx_tokens.specs.declared.scanner.Lexeme.{Lexeme}
 use Rattle.dx_tokens.proofs.Few.{lexemes_few}
 use Rattle.dx_grammar.specs.Readers.{Many, no_more, one_more}
-use Rattle.dx_ports.specs.Members.{here, there, Each}
+use Rattle.dx_base.specs.Members.{here, there, Each}
 use Rattle.dx_tgd_text.specs.Numbering.{text_cells}
 use Rattle.dx_tgd_text.proofs.Written.{atoms_few, cells_few}
 use Rattle.dx_query_text.specs.declared.texts.PartText.{PartText}

@@ -4,9 +4,9 @@ use Rattle.std.specs.Prelude.{eqb}
 use Rattle.std.specs.Cmp.Lexicographic.{pointwise}
 use Rattle.std.proofs.lemmas.Bool.{eqb-true, or_cases, and_parts}
 use Rattle.std.proofs.lemmas.List.{length-map}
-use Rattle.dx_ports.specs.Members.{◌∈◌, here, there, Each}
-use Rattle.dx_ports.proofs.Members.{from_map, in_map, in_flat_map, from_flat_map}
-use Rattle.dx_ports.proofs.Firsts.{first_none, none_of, each_none}
+use Rattle.dx_base.specs.Members.{◌∈◌, here, there, Each}
+use Rattle.dx_base.proofs.Members.{from_map, in_map, in_flat_map, from_flat_map}
+use Rattle.dx_base.proofs.Firsts.{first_none, none_of, each_none}
 use Rattle.dx_model.specs.declared.rules.Cell.{Cell}
 use Rattle.dx_model.specs.declared.rules.Cell.TheVariants.{Var}
 use Rattle.dx_model.specs.declared.rules.Atom.{Atom}
@@ -14,7 +14,7 @@ use Rattle.dx_model.specs.Rules.{cells_of}
 use Rattle.dx_model.specs.Fitting.{AtomFitsWidths}
 use Rattle.dx_schema.specs.Forest.{Forest}
 use Rattle.dx_schema.specs.Tables.{TableOf, no_table, tables_of, schema_widths, number_of_name}
-use Rattle.dx_ports.specs.Texts.{Text}
+use Rattle.dx_base.specs.Texts.{Text}
 use Rattle.dx_schema.specs.Faults.{is_among}
 use Rattle.dx_schema.proofs.Loops.{among_number}
 use Rattle.dx_tokens.specs.declared.faults.TextFault.TheVariants.{At}

@@ -1,11 +1,11 @@
 -- From the steps of a part to the part.
 use Rattle.std.proofs.Common.{◌≡◌, ◌⊎◌, ◌<◌, inl, inr, ℕ, List, [], Some, None, length, map, drop, get_or, refl, ap, ◌∙◌, subst}
-use Rattle.dx_ports.specs.Firsts.{first_of}
-use Rattle.dx_ports.proofs.Lists.{cut_at}
+use Rattle.dx_base.specs.Firsts.{first_of}
+use Rattle.dx_base.proofs.Lists.{cut_at}
 use Rattle.dx_model.specs.declared.rules.Atom.{Atom}
 use Rattle.dx_model.specs.declared.rules.Cell.{Cell}
 use Rattle.dx_schema.specs.Forest.{Forest}
-use Rattle.dx_ports.specs.Texts.{Text}
+use Rattle.dx_base.specs.Texts.{Text}
 use Rattle.dx_tokens.specs.declared.faults.TextFault.{TextFault}
 use Rattle.dx_tokens.specs.declared.faults.TextFault.TheVariants.{Memory}
 use Rattle.dx_tgd_text.specs.Reading.{atoms_fault, atoms_of_texts, cell_of}

@@ -1,7 +1,7 @@
 -- What holds of every text, and of what is read by numbers.
 use Rattle.std.specs.Prelude.{◌≡◌, ◌≤◌, ◌+◌, ◌⊎◌, ℕ, List, None, length}
-use Rattle.dx_ports.specs.declared.limits.TheConstants.{QUERY_ATOMS}
-use Rattle.dx_ports.specs.Members.{Each}
+use Rattle.dx_base.specs.declared.limits.TheConstants.{QUERY_ATOMS}
+use Rattle.dx_base.specs.Members.{Each}
 use Rattle.dx_schema.specs.Forest.{Forest}
 use Rattle.dx_schema.specs.Tables.{schema_widths}
 use Rattle.dx_tokens.specs.declared.faults.TextFault.{TextFault}

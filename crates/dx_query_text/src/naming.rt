@@ -1,11 +1,11 @@
 // Parts, by the numbers of what they name.
 ghost use Rattle.std.specs.Prelude.{◌≡◌, None, Some, IfErr, OnOk};
-ghost use Rattle.dx_ports.specs.Members.{Each};
+ghost use Rattle.dx_base.specs.Members.{Each};
 ghost use Rattle.dx_line_text.specs.Answers.{ReadsOrMemory};
 ghost use Rattle.dx_query_text.specs.Naming.{PartHasFewCells, answer_cell_fault, answer_fault, part_fault, part_of_text, query_fault, query_of, width_fault, width_of};
 
 use crate::texts::PartText;
-use dx_ports::Items;
+use dx_base::Items;
 use dx_queries::{Part, Query};
 use dx_schema::Schema;
 use dx_schema_text::CellText;

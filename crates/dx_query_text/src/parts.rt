@@ -10,8 +10,8 @@ ghost use Rattle.dx_query_text.specs.Reading.{part_reader, query_reader};
 ghost use Rattle.dx_query_text.specs.Texts.{query_of_text, query_of_tokens};
 
 use crate::texts::PartText;
+use dx_base::Items;
 use dx_grammar::{ReadError, nothing_left};
-use dx_ports::Items;
 use dx_schema_text::{atoms, cells, judged, keyword, mark, next_is_keyword, number};
 use dx_tokens::{Lexeme, TextFault, TextKind, scan};
 use std::alloc::Global;

@@ -1,15 +1,15 @@
 -- The atoms of a printed rule are read as they were.
 use Rattle.std.proofs.Common.{◌≡◌, ℕ, suc, List, [], ◌∷◌, ◌++◌, Option, None, map, length, refl, sym, ap, ◌∙◌}
-use Rattle.dx_ports.specs.Members.{here, there, Each}
-use Rattle.dx_ports.proofs.Members.{in_left, in_right}
-use Rattle.dx_ports.specs.Firsts.{first_of}
+use Rattle.dx_base.specs.Members.{here, there, Each}
+use Rattle.dx_base.proofs.Members.{in_left, in_right}
+use Rattle.dx_base.specs.Firsts.{first_of}
 use Rattle.dx_model.specs.declared.rules.Cell.{Cell}
 use Rattle.dx_model.specs.declared.rules.Atom.{Atom}
 use Rattle.dx_model.specs.Rules.{cells_of}
 use Rattle.dx_model.specs.Solutions.{AtomFits}
 use Rattle.dx_schema.specs.Forest.{Forest}
 use Rattle.dx_schema.specs.Tables.{AreTables, model_tables, tables_of}
-use Rattle.dx_ports.specs.Texts.{Text}
+use Rattle.dx_base.specs.Texts.{Text}
 use Rattle.dx_schema.proofs.Facts.{atom_table, atom_width}
 use Rattle.dx_tokens.specs.declared.faults.TextFault.{TextFault}
 use Rattle.dx_schema_text.specs.declared.texts.AtomText.{AtomText}

@@ -1,13 +1,13 @@
 -- The names in the cells of a printed rule, and the cells that are read.
 use Rattle.std.proofs.Common.{◌≡◌, ℕ, Bool, true, false, List, [], ◌∷◌, ◌++◌, map, flat_map, cond, refl, ap, ◌∙◌}
-use Rattle.dx_ports.specs.Members.{◌∈◌, here, there, Each}
+use Rattle.dx_base.specs.Members.{◌∈◌, here, there, Each}
 use Rattle.dx_model.specs.declared.rules.Cell.{Cell}
 use Rattle.dx_model.specs.declared.rules.Cell.TheVariants.{Var, Ex, Lit}
 use Rattle.dx_model.specs.declared.rules.Atom.{Atom}
 use Rattle.dx_model.specs.Rules.{cells_of, existential_in}
 use Rattle.dx_model.specs.Fitting.{IsVariable, cell_variable}
 use Rattle.dx_schema.specs.Tables.{number_of_name}
-use Rattle.dx_ports.specs.Texts.{Text}
+use Rattle.dx_base.specs.Texts.{Text}
 use Rattle.dx_schema.specs.Faults.{is_among}
 use Rattle.dx_schema_text.specs.declared.texts.CellText.{CellText}
 use Rattle.dx_schema_text.specs.declared.texts.CellText.TheVariants.{Name, Literal}

@@ -15,7 +15,7 @@ use Rattle.dx_schema_text.specs.declared.texts.CellText.TheVariants.{Name}
 use Rattle.dx_schema_text.specs.declared.texts.RuleText.{RuleText}
 use Rattle.dx_funcs.specs.declared.conversion.Conversion.{Conversion}
 use Rattle.dx_rule_text.specs.Printed.{rule_text}
-use Rattle.dx_ports.specs.Texts.{Text}
+use Rattle.dx_base.specs.Texts.{Text}
 use Rattle.dx_tgd_text.specs.Reading.{rule_of_text}
 
 -- employees with a name and a place, persons with a name and a telephone

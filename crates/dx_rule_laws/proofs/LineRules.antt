@@ -1,8 +1,8 @@
 -- The rules that the lines of a mapping text stand for can be written.
 use Rattle.std.proofs.Common.{◌≡◌, ℕ, Bool, true, false, List, [], ◌∷◌, ◌++◌, Option, Some, None, cond, map, flat_map, refl, sym, ap, ◌∙◌, subst}
-use Rattle.dx_ports.specs.Members.{◌∈◌, here, there, Each}
-use Rattle.dx_ports.proofs.Members.{from_map, from_flat_map, in_left, in_right}
-use Rattle.dx_ports.proofs.Firsts.{two_none, each_none}
+use Rattle.dx_base.specs.Members.{◌∈◌, here, there, Each}
+use Rattle.dx_base.proofs.Members.{from_map, from_flat_map, in_left, in_right}
+use Rattle.dx_base.proofs.Firsts.{two_none, each_none}
 use Rattle.dx_model.specs.declared.rules.Cell.TheVariants.{Lit}
 use Rattle.dx_model.specs.declared.rules.Atom.{Atom}
 use Rattle.dx_model.specs.declared.rules.Derived.{Derived}

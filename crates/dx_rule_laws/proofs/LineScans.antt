@@ -3,8 +3,8 @@ use Rattle.std.proofs.Common.{◌≡◌, ℕ, ◌+◌, ◌-◌, ◌≤◌, List,
 use Rattle.std.specs.Prelude.{IsTrue, IsOk, MatchResult}
 use Rattle.std.proofs.lemmas.Bool.{false≢true}
 use Rattle.std.proofs.lemmas.List.{drop_at, length-append}
-use Rattle.dx_ports.specs.Members.{here, there, Each}
-use Rattle.dx_ports.proofs.Members.{each_cons}
+use Rattle.dx_base.specs.Members.{here, there, Each}
+use Rattle.dx_base.proofs.Members.{each_cons}
 use Rattle.dx_tokens.specs.declared.tokenizer.Token.{Token}
 use Rattle.dx_tokens.specs.declared.tokenizer.TokenKind.{TokenKind}
 use Rattle.dx_tokens.specs.declared.tokenizer.TokenKind.TheVariants.{Word, Number, Str, Mark}

@@ -2,9 +2,9 @@
 use Rattle.std.proofs.Common.{◌≡◌, ℕ, suc, ◌+◌, ◌<◌, Bool, List, [], ◌∷◌, ◌++◌, Option, None, Some, inl, inr, map, length, refl, sym, ap, ◌∙◌, subst, append_assoc}
 use Rattle.std.specs.Prelude.{codes}
 use Rattle.std.proofs.lemmas.List.{append-nil}
-use Rattle.dx_ports.specs.Members.{here, there, Each}
-use Rattle.dx_ports.specs.Firsts.{first_of}
-use Rattle.dx_ports.proofs.Members.{in_at, from_map, from_append}
+use Rattle.dx_base.specs.Members.{here, there, Each}
+use Rattle.dx_base.specs.Firsts.{first_of}
+use Rattle.dx_base.proofs.Members.{in_at, from_map, from_append}
 use Rattle.dx_model.specs.declared.rules.Rule.{Rule}
 use Rattle.dx_model.specs.Fitting.{RuleFits}
 use Rattle.dx_schema.specs.Forest.{Forest, none, set}

@@ -1,8 +1,8 @@
 -- A printed rule is read as the same rule.
 use Rattle.std.proofs.Common.{◌≡◌, ℕ, ◌+◌, ◌<◌, ◌^◌, false, List, [], ◌∷◌, ◌++◌, None, map, flat_map, length, refl, ap, ◌∙◌, arith}
-use Rattle.dx_ports.specs.Members.{◌∈◌, here, Each}
-use Rattle.dx_ports.specs.Firsts.{first_of}
-use Rattle.dx_ports.proofs.Members.{in_flat_map, from_flat_map}
+use Rattle.dx_base.specs.Members.{◌∈◌, here, Each}
+use Rattle.dx_base.specs.Firsts.{first_of}
+use Rattle.dx_base.proofs.Members.{in_flat_map, from_flat_map}
 use Rattle.dx_model.specs.declared.rules.Cell.TheVariants.{Var, Ex}
 use Rattle.dx_model.specs.declared.rules.Atom.{Atom}
 use Rattle.dx_model.specs.declared.rules.Derived.{Derived}
@@ -13,7 +13,7 @@ use Rattle.dx_model.proofs.Frozen.{few_numbered, few_in_cells}
 use Rattle.dx_model.proofs.Cells.{few_existentials}
 use Rattle.dx_schema.specs.Forest.{Forest}
 use Rattle.dx_schema.specs.Tables.{AreTables, model_tables, tables_of}
-use Rattle.dx_ports.specs.Texts.{Text}
+use Rattle.dx_base.specs.Texts.{Text}
 use Rattle.dx_schema.specs.Faults.{is_among}
 use Rattle.dx_schema_text.specs.declared.texts.RuleText.{RuleText}
 use Rattle.dx_funcs.specs.declared.conversion.Conversion.{Conversion}

@@ -15,7 +15,7 @@ use Rattle.dx_schema_text.specs.declared.texts.RuleText.{RuleText}
 use Rattle.dx_schema_text.specs.declared.texts.CellText.TheVariants.{Name}
 use Rattle.dx_schema_text.specs.Spelling.{SpellsRule, comma_then, parted, a_name, atom_of, no_where}
 use Rattle.dx_schema_text.specs.Spelling as spelling
-use Rattle.dx_ports.specs.Texts.{Text}
+use Rattle.dx_base.specs.Texts.{Text}
 use Rattle.dx_tgd_text.specs.Reading.{rule_fault}
 use Rattle.dx_rule_laws.specs.ReadBack.{IsRuleText, IsReadAs}
 use Rattle.dx_rule_laws.proofs.OneRule.{one_rule_text}

@@ -1,8 +1,8 @@
 -- What is read after a mapping is one list of rules, what is read has listed conversions, and rules that are said can be printed.
 use Rattle.std.proofs.Common.{◌≡◌, refl, sym, ap, ◌∙◌, subst}
 use Rattle.std.proofs.lemmas.List.{append_cancel_left}
-use Rattle.dx_ports.proofs.Firsts.{each_none}
-use Rattle.dx_ports.proofs.Members.{from_map}
+use Rattle.dx_base.proofs.Firsts.{each_none}
+use Rattle.dx_base.proofs.Members.{from_map}
 use Rattle.dx_model.specs.Fitting.{RuleFits}
 use Rattle.dx_schema.specs.Tables.{model_tables}
 use Rattle.dx_schema_text.specs.declared.texts.MappingText.{MappingText}

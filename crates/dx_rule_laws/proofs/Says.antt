@@ -16,7 +16,7 @@ use Rattle.dx_schema_text.specs.declared.texts.RuleText.{RuleText}
 use Rattle.dx_funcs.specs.declared.conversion.Conversion.{Conversion}
 use Rattle.dx_funcs.specs.Names.{conversion_name}
 use Rattle.dx_rule_text.specs.Printed.{table_name, variable_text}
-use Rattle.dx_ports.specs.Texts.{Text}
+use Rattle.dx_base.specs.Texts.{Text}
 
 -- two lists of one length, whose members are related one by one
 pub data Paired {A B : Type 0} (R : A → B → Type 0) : List A → List B → Type 0 where

@@ -1,7 +1,7 @@
 -- Printed rules are tokens that spell rules.
 use Rattle.std.proofs.Common.{◌≡◌, ℕ, suc, ◌<◌, ◌^◌, Bool, true, false, List, [], ◌∷◌, ◌++◌, map, length, refl, sym, ap, subst, append_assoc, arith}
 use Rattle.std.specs.Prelude.{codes, flat_map}
-use Rattle.dx_ports.specs.Members.{here, there, Each}
+use Rattle.dx_base.specs.Members.{here, there, Each}
 use Rattle.dx_model.specs.declared.rules.Cell.{Cell}
 use Rattle.dx_model.specs.declared.rules.Cell.TheVariants.{Var, Ex, Lit}
 use Rattle.dx_model.specs.declared.rules.Atom.{Atom}
@@ -22,7 +22,7 @@ use Rattle.dx_schema_text.proofs.PrintScans.{Reads, EndsWord, lexeme, no_token, 
 use Rattle.dx_funcs.specs.declared.conversion.Conversion.{Conversion}
 use Rattle.dx_funcs.specs.Names.{conversion_name}
 use Rattle.dx_rule_text.specs.Printed.{separated, variable_text, cell_text, atom_text, derived_text, derived_texts, where_text, rule_text, table_name}
-use Rattle.dx_ports.specs.Texts.{Text}
+use Rattle.dx_base.specs.Texts.{Text}
 use Rattle.dx_rule_laws.specs.ReadBack.{IsStringText}
 use Rattle.dx_rule_laws.proofs.Says.{Paired, no_pair, one_pair, existential_text, SaysCell, SaysVariable, SaysAtom, Counted, counted, SaysDerived, SaysRule}
 use Rattle.dx_rule_laws.proofs.VariableTexts.{variable_word, existential_word}

@@ -5,8 +5,8 @@ use Rattle.std.proofs.lemmas.Str.{inside_one}
 use Rattle.std.specs.Char.{encode_utf8}
 use Rattle.std.specs.List.{concat}
 use Rattle.std.proofs.lemmas.Bool.{cases_lt}
-use Rattle.dx_ports.specs.Members.{◌∈◌, here, there, Each}
-use Rattle.dx_ports.proofs.Members.{from_append, in_left}
+use Rattle.dx_base.specs.Members.{◌∈◌, here, there, Each}
+use Rattle.dx_base.proofs.Members.{from_append, in_left}
 use Rattle.dx_tokens.specs.declared.tokenizer.TokenKind.TheVariants.{Str}
 use Rattle.dx_tokens.specs.Scan.{lexeme_text}
 use Rattle.dx_tokens.specs.Lexing.{IsCharacter, IsString}

@@ -6,8 +6,8 @@ use Rattle.std.specs.Str.Parse.{AllDigits}
 use Rattle.std.proofs.lemmas.Bool.Decides.{nat_tests}
 use Rattle.std.proofs.lemmas.Str.Parse.{digit_from_value}
 use Rattle.std.proofs.lemmas.Fmt.{decimal_injective, decimal_is_IsNumeral}
-use Rattle.dx_ports.specs.Members.{here, there, Each}
-use Rattle.dx_ports.proofs.Lists.{head_is}
+use Rattle.dx_base.specs.Members.{here, there, Each}
+use Rattle.dx_base.proofs.Lists.{head_is}
 use Rattle.dx_tokens.specs.Tokens.{is_word_byte}
 use Rattle.dx_tokens.specs.Lexing.{IsWord}
 use Rattle.dx_rule_text.specs.Printed.{variable_text}

@@ -1,7 +1,7 @@
 -- Printed rules are read again.
 use Rattle.std.specs.Prelude.{◌≡◌, List, ◌++◌, None, codes}
-use Rattle.dx_ports.specs.Members.{◌∈◌, Each}
-use Rattle.dx_ports.specs.Texts.{Text}
+use Rattle.dx_base.specs.Members.{◌∈◌, Each}
+use Rattle.dx_base.specs.Texts.{Text}
 use Rattle.dx_model.specs.declared.rules.Rule.{Rule}
 use Rattle.dx_model.specs.Tables.{Table}
 use Rattle.dx_model.specs.Fitting.{RuleFits}

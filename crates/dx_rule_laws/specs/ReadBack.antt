@@ -1,7 +1,7 @@
 -- When a text is read as a rule, and which rules can be written so that they are.
 use Rattle.std.specs.Prelude.{◌≡◌, ◌≤◌, List, None, IsUtf8, ◌++◌}
-use Rattle.dx_ports.specs.Members.{◌∈◌, Each}
-use Rattle.dx_ports.specs.Texts.{Text}
+use Rattle.dx_base.specs.Members.{◌∈◌, Each}
+use Rattle.dx_base.specs.Texts.{Text}
 use Rattle.dx_model.specs.declared.rules.Cell.TheVariants.{Lit}
 use Rattle.dx_model.specs.declared.rules.Atom.{Atom}
 use Rattle.dx_model.specs.declared.rules.Rule.{Rule}

@@ -2,7 +2,7 @@
 use Rattle.std.proofs.Common.{◌≡◌, ◌<◌, ℕ, [], ◌∷◌, refl, false, arith}
 use Rattle.std.specs.Prelude.{codes}
 use Rattle.std.specs.Fmt.{digits}
-use Rattle.dx_ports.specs.Members.{◌∈◌, here, there}
+use Rattle.dx_base.specs.Members.{◌∈◌, here, there}
 use Rattle.dx_model.specs.declared.rules.Cell.TheVariants.{Var, Ex, Lit}
 use Rattle.dx_model.specs.declared.rules.Rule.{Rule}
 use Rattle.dx_schema.specs.Forest.{Forest, none, set, bare_set}

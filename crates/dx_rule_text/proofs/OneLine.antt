@@ -3,8 +3,8 @@ use Rattle.std.proofs.Common.{◌≡◌, ◌≢◌, ◌+◌, ℕ, zero, suc, Boo
 use Rattle.std.specs.Prelude.{codes, decimal, map, if◌then◌else◌, nat_lt, ◌/◌, ◌%◌, ◌==◌, ◌||◌}
 use Rattle.std.specs.Fmt.{digits, digit_glyph, digits_onto}
 use Rattle.std.proofs.lemmas.Bool.{false≢true}
-use Rattle.dx_ports.specs.Members.{◌∈◌, here, there, Each}
-use Rattle.dx_ports.proofs.Members.{from_append, from_flat_map, from_map}
+use Rattle.dx_base.specs.Members.{◌∈◌, here, there, Each}
+use Rattle.dx_base.proofs.Members.{from_append, from_flat_map, from_map}
 use Rattle.dx_model.specs.declared.rules.Cell.{Cell}
 use Rattle.dx_model.specs.declared.rules.Cell.TheVariants.{Var, Ex, Lit}
 use Rattle.dx_model.specs.declared.rules.Atom.{Atom}
@@ -14,7 +14,7 @@ use Rattle.dx_schema.specs.Forest.{Forest}
 use Rattle.dx_tokens.specs.Quoted.{escaped, quoted}
 use Rattle.dx_funcs.specs.Names.{conversion_name}
 use Rattle.dx_rule_text.specs.Printed.{atom_text, atoms_text, cell_text, derived_text, derived_texts, separated, table_name, variable_text, where_text}
-use Rattle.dx_ports.specs.Texts.{Text}
+use Rattle.dx_base.specs.Texts.{Text}
 use Rattle.dx_rule_text.specs.Laws.{IsOneLine, IsOneLineAtom, RulesAreOneLine}
 
 nothing : IsOneLine []

@@ -1,14 +1,14 @@
 // The text of derived variables.
 ghost use Rattle.std.specs.Prelude.{◌≡◌, ◌++◌, ◌≤◌, ◌^◌, OnOk, map, max, string_bytes};
-ghost use Rattle.dx_ports.specs.Members.{◌∈◌};
+ghost use Rattle.dx_base.specs.Members.{◌∈◌};
 ghost use Rattle.dx_model.specs.Rules.{after_cells, cells_of};
 ghost use Rattle.dx_funcs.specs.Names.{conversion_name};
 ghost use Rattle.dx_funcs.specs.Serving.{offered};
 ghost use Rattle.dx_rule_text.specs.Printed.{AreListed, derived_text, separated, variable_text, where_text};
 
+use dx_base::{Items, Text};
 use dx_funcs::{Host, Meaning};
 use dx_model::{Atom, Cell, Derived};
-use dx_ports::{Items, Text};
 use std::alloc::AllocError;
 use std::fmt::Write;
 

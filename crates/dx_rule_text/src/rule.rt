@@ -1,14 +1,14 @@
 // The text of rules.
 ghost use Rattle.std.specs.Prelude.{◌≡◌, ◌++◌, IfOk, OnOk, string_bytes};
-ghost use Rattle.dx_ports.specs.Members.{Each};
+ghost use Rattle.dx_base.specs.Members.{Each};
 ghost use Rattle.dx_funcs.specs.Serving.{offered};
 ghost use Rattle.dx_rule_text.specs.Printed.{AreAtomsOf, AreListed, rule_text, rules_text};
 
 use crate::atoms::push_atoms;
 use crate::derived::{after_atoms, push_where};
+use dx_base::{Items, Text};
 use dx_funcs::{Host, Meaning};
 use dx_model::Rule;
-use dx_ports::{Items, Text};
 use dx_schema::Schema;
 use std::alloc::{AllocError, Global};
 

@@ -1,7 +1,7 @@
 -- Between which unfoldings a rule can be drafted.
 use Rattle.std.specs.Prelude.{◌≤◌, ◌*◌, List}
-use Rattle.dx_ports.specs.declared.limits.TheConstants.{OCCURRENCES, COLUMNS}
-use Rattle.dx_ports.specs.Members.{Each}
+use Rattle.dx_base.specs.declared.limits.TheConstants.{OCCURRENCES, COLUMNS}
+use Rattle.dx_base.specs.Members.{Each}
 use Rattle.dx_model.specs.Tables.{AreWithin}
 use Rattle.dx_logical.specs.declared.relation.Relation.{Relation}
 use Rattle.dx_lines.specs.declared.line.Line.{Line}

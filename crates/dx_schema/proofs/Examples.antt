@@ -8,8 +8,8 @@ use Rattle.dx_schema.specs.Inner.{AreAscending}
 use Rattle.dx_schema.specs.Names.{HaveDistinctNames}
 use Rattle.dx_schema.specs.Links.{LinkFits, LinksFit}
 use Rattle.dx_schema.specs.Bounds.{RulesBelow}
-use Rattle.dx_ports.specs.Texts.{Text}
-use Rattle.dx_ports.specs.Members.{here, there}
+use Rattle.dx_base.specs.Texts.{Text}
+use Rattle.dx_base.specs.Members.{here, there}
 
 abbrev a : Text
 a = 97 ∷ []
@@ -237,6 +237,27 @@ to_no_table fit = absurd (omega (arith, link.table))
     link : LinkFits (linked [] (from_to (0 ∷ []) 1 (0 ∷ []) ∷ []) ∷ []) 2 (from_to (0 ∷ []) 1 (0 ∷ []))
     link = fit (linked [] (from_to (0 ∷ []) 1 (0 ∷ []) ∷ [])) (here refl) (from_to (0 ∷ []) 1 (0 ∷ [])) (here refl)
 
+-- even if no column of it is wanted
+to_no_table_alone : ¬ (LinksFit (linked (from_to [] 1 [] ∷ []) [] ∷ []))
+to_no_table_alone fit = absurd (omega (arith, link.table))
+  where
+    link : LinkFits (linked (from_to [] 1 [] ∷ []) [] ∷ []) 2 (from_to [] 1 [])
+    link = fit (linked (from_to [] 1 [] ∷ []) []) (here refl) (from_to [] 1 []) (here refl)
+
+from_no_column : ¬ (LinksFit (linked (from_to (2 ∷ []) 0 (0 ∷ []) ∷ []) [] ∷ []))
+from_no_column fit = absurd (omega (arith, link.from 2 (here refl)))
+  where
+    link : LinkFits (linked (from_to (2 ∷ []) 0 (0 ∷ []) ∷ []) [] ∷ []) 2 (from_to (2 ∷ []) 0 (0 ∷ []))
+    link =
+        fit (linked (from_to (2 ∷ []) 0 (0 ∷ []) ∷ []) []) (here refl) (from_to (2 ∷ []) 0 (0 ∷ [])) (here refl)
+
+to_no_column : ¬ (LinksFit (linked (from_to (0 ∷ []) 0 (2 ∷ []) ∷ []) [] ∷ []))
+to_no_column fit = absurd (omega (arith, link.to 2 (here refl)))
+  where
+    link : LinkFits (linked (from_to (0 ∷ []) 0 (2 ∷ []) ∷ []) [] ∷ []) 2 (from_to (0 ∷ []) 0 (2 ∷ []))
+    link =
+        fit (linked (from_to (0 ∷ []) 0 (2 ∷ []) ∷ []) []) (here refl) (from_to (0 ∷ []) 0 (2 ∷ [])) (here refl)
+
 abbrev narrowing : Link
 narrowing = from_to (0 ∷ 1 ∷ []) 0 (0 ∷ [])
 
@@ -266,3 +287,13 @@ too_many_inside : ¬ (RulesBelow 2
       refs = [];
     }) none none) none))
 too_many_inside few = absurd (omega (arith, few.2.0))
+
+-- and so are refs
+too_many_refs : ¬ (RulesBelow 1 (set (record {
+  name = a;
+  columns = a ∷ [];
+  keys = [];
+  deps = [];
+  refs = record { columns = a ∷ []; set = a; referred = a ∷ []; optional = false } ∷ [];
+}) none none))
+too_many_refs few = absurd (omega (arith, few.1))

@@ -1,9 +1,9 @@
 -- The first faults of small sets, computed.
 use Rattle.std.proofs.Common.{◌≡◌, ℕ, zero, suc, ◌≤◌, true, false, List, [], ◌∷◌, Option, Some, None, codes}
 use Rattle.std.proofs.Common.{refl, inr, ap, arith}
-use Rattle.dx_ports.specs.declared.file.Count.TheVariants.{Tables, Columns, Depth}
-use Rattle.dx_ports.specs.Members.{◌∈◌, here, there}
-use Rattle.dx_ports.specs.Texts.{Text}
+use Rattle.dx_base.specs.declared.file.Count.TheVariants.{Tables, Columns, Depth}
+use Rattle.dx_base.specs.Members.{◌∈◌, here, there}
+use Rattle.dx_base.specs.Texts.{Text}
 use Rattle.dx_model.specs.declared.tables.Link.{Link}
 use Rattle.dx_model.specs.Tables.{table_of}
 use Rattle.dx_schema.specs.declared.fault.SchemaFault.{SchemaFault}
@@ -16,7 +16,7 @@ use Rattle.dx_schema.specs.declared.sets.RefDecl.{RefDecl}
 use Rattle.dx_schema.specs.Forest.{Label, Forest, none, set}
 use Rattle.dx_schema.specs.Faults.{form_fault}
 use Rattle.dx_schema.specs.Tables.{model_tables}
-use Rattle.dx_schema.specs.Links.{every_link, LeadsByLinks, directly, further, IsFirstSchemaFault}
+use Rattle.dx_schema.specs.Links.{every_link, LeadsByLinks, directly, further, IsFirstCycle, IsFirstSchemaFault}
 
 abbrev a : Text
 a = codes "a"
@@ -285,6 +285,16 @@ cyclic_self = inr (
     refl,
   ),
 )
+
+-- of two such sets the second is not the first
+abbrev two_circles : Forest
+two_circles =
+    beside (with_parts (x ∷ []) [] [] (ref_to (x ∷ []) a (x ∷ []) ∷ []))
+    (record { name = b; columns = x ∷ []; keys = []; deps = []; refs = ref_to (x ∷ []) b (x ∷ []) ∷ [] })
+
+not_the_second : ¬ IsFirstCycle (model_tables two_circles) 1
+not_the_second c =
+    c.first 0 (omega arith) (directly (record { from = 0 ∷ []; table = 0; to = 0 ∷ [] }) (here refl))
 
 -- so it is if the ref is optional
 abbrev to_self_maybe : Forest

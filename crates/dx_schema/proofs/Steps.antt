@@ -7,9 +7,9 @@ use Rattle.std.proofs.lemmas.List.{get_or_default, get_or-map, take_all, take_mo
 use Rattle.std.proofs.lemmas.List.Elements.{filter-append}
 use Rattle.std.proofs.Math.ListN.{get_or-eq_default}
 use Rattle.std.proofs.lemmas.Simd.{map-map}
-use Rattle.dx_ports.specs.declared.file.Count.TheVariants.{Tables, Depth}
-use Rattle.dx_ports.specs.Members.{◌∈◌, Each}
-use Rattle.dx_ports.proofs.Members.{from_map, in_map, in_at}
+use Rattle.dx_base.specs.declared.file.Count.TheVariants.{Tables, Depth}
+use Rattle.dx_base.specs.Members.{◌∈◌, Each}
+use Rattle.dx_base.proofs.Members.{from_map, in_map, in_at}
 use Rattle.dx_model.specs.declared.tables.Key.{Key}
 use Rattle.dx_schema.specs.declared.sets.KeyDecl.{KeyDecl}
 use Rattle.dx_schema.specs.declared.nodes.Node.{Node}
@@ -18,8 +18,8 @@ use Rattle.dx_schema.specs.declared.fault.SchemaFault.TheVariants.{Bad, TooMany}
 use Rattle.dx_schema.specs.declared.fault.SchemaKind.TheVariants.{CyclicLinks}
 use Rattle.dx_schema.specs.Forest.{Forest, none, set, has_sets}
 use Rattle.dx_schema.specs.Tables.{TableOf, NumberedSet, count, sets_of, names_of, columns_of, key_named, keys_in, where_has_inner, where_inner, table_in, tables_of, schema_table, no_table, as_numbers, AreTables}
-use Rattle.dx_ports.specs.Texts.{Text}
-use Rattle.dx_ports.specs.Firsts.{first_of}
+use Rattle.dx_base.specs.Texts.{Text}
+use Rattle.dx_base.specs.Firsts.{first_of}
 use Rattle.dx_schema.specs.Faults.{depth, sets_fault, declarations_fault, form_fault}
 use Rattle.dx_schema.specs.Links.{IsAcyclic, IsFirstCycle, IsFaultless, IsFirstSchemaFault}
 use Rattle.dx_schema.specs.Nodes.{node_view, AreNodesOf}

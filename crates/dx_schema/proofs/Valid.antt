@@ -5,8 +5,8 @@ use Rattle.std.specs.List.{filter}
 use Rattle.std.specs.Cmp.Lexicographic.{pointwise, same_text, other_text}
 use Rattle.std.proofs.lemmas.Bool.{false≢true, true≢false, ltb-false, eqb-true}
 use Rattle.std.proofs.lemmas.List.{get_or_append_left, get_or-append-add, get_or-map, length-map}
-use Rattle.dx_ports.specs.Members.{Distinct, here, there, ◌∈◌, ◌⊆◌}
-use Rattle.dx_ports.proofs.Members.{from_map, in_map, in_left, in_right, from_append}
+use Rattle.dx_base.specs.Members.{Distinct, here, there, ◌∈◌, ◌⊆◌}
+use Rattle.dx_base.proofs.Members.{from_map, in_map, in_left, in_right, from_append}
 use Rattle.dx_model.specs.declared.tables.Key.{Key}
 use Rattle.dx_model.specs.declared.tables.Dep.{Dep}
 use Rattle.dx_model.specs.declared.tables.Link.{Link}
@@ -19,14 +19,14 @@ use Rattle.dx_schema.specs.declared.sets.DepDecl.{DepDecl}
 use Rattle.dx_schema.specs.declared.sets.RefDecl.{RefDecl}
 use Rattle.dx_schema.specs.Forest.{Label, Forest, none, set, has_sets}
 use Rattle.dx_schema.specs.Tables.{TableOf, NumberedSet, numbered_sets, sets_of, names_of, count, where_has_inner, where_inner, columns_of, columns_at, number_of_name, numbers_of_names, key_named, keys_in, link_of, link_up, links_in, table_in, tables_of, IsLink, IsSchemaTable, AreTables, AreColumns, IsDep, dep_named, deps_in}
-use Rattle.dx_ports.specs.Texts.{Text}
-use Rattle.dx_ports.specs.Firsts.{first_of}
+use Rattle.dx_base.specs.Texts.{Text}
+use Rattle.dx_base.specs.Firsts.{first_of}
 use Rattle.dx_schema.specs.Faults.{fault_if, is_among, level_names, twice_in, names_within, set_fault, sets_fault, columns_fault, key_fault, dep_fault, declared_at, ref_fault, declarations_fault, form_fault}
 use Rattle.dx_schema.proofs.Preorder.{length_placed}
 use Rattle.dx_schema.proofs.Loops.{among_number}
-use Rattle.dx_ports.proofs.Tests.{from_filter}
-use Rattle.dx_ports.proofs.Firsts.{first_none, none_of, two_none, each_none}
-use Rattle.dx_ports.proofs.Loops.{neither}
+use Rattle.dx_base.proofs.Tests.{from_filter}
+use Rattle.dx_base.proofs.Firsts.{first_none, none_of, two_none, each_none}
+use Rattle.dx_base.proofs.Loops.{neither}
 
 -- ---- no fault
 

@@ -3,9 +3,9 @@ use Rattle.std.proofs.Common.{◌≡◌, ℕ, zero, suc, ◌+◌, ◌-◌, ◌^�
 use Rattle.std.specs.Prelude.{All, Contains, MatchOption}
 use Rattle.std.proofs.lemmas.Bool.{cases_lt}
 use Rattle.std.proofs.lemmas.List.{append-nil, drop_all, get_or-map, get_or_default, get_or_append_left, get_or-append_right, length-map, map-append}
-use Rattle.dx_ports.specs.Members.{◌∈◌}
-use Rattle.dx_ports.proofs.Members.{from_map, in_map, in_at, in_left, in_right, from_append, contains_from_in, in_from_contains}
-use Rattle.dx_ports.proofs.Lists.{cut_at}
+use Rattle.dx_base.specs.Members.{◌∈◌}
+use Rattle.dx_base.proofs.Members.{from_map, in_map, in_at, in_left, in_right, from_append, contains_from_in, in_from_contains}
+use Rattle.dx_base.proofs.Lists.{cut_at}
 use Rattle.dx_model.specs.declared.tables.Link.{Link}
 use Rattle.dx_model.specs.Tables.{Table, table_of}
 use Rattle.dx_schema.specs.declared.cycles.Edge.{Edge}

@@ -1,8 +1,8 @@
 -- What is given to make the tables of sets.
 use Rattle.std.specs.Prelude.{◌≡◌, ◌+◌, ◌<◌, ◌≤◌, List, length, map}
-use Rattle.dx_ports.specs.declared.limits.TheConstants.{TABLES, COLUMNS}
-use Rattle.dx_ports.specs.Members.{Each}
-use Rattle.dx_ports.specs.Texts.{Text}
+use Rattle.dx_base.specs.declared.limits.TheConstants.{TABLES, COLUMNS}
+use Rattle.dx_base.specs.Members.{Each}
+use Rattle.dx_base.specs.Texts.{Text}
 use Rattle.dx_schema.specs.declared.nodes.Node.{Node}
 use Rattle.dx_schema.specs.Tables.{columns_of, count, names_of}
 use Rattle.dx_schema.specs.Nodes.{node_view}

@@ -1,7 +1,7 @@
 // A schema: sets, and the tables that they make.
 ghost use Rattle.std.specs.Prelude.{◌≡◌, ◌<◌, ◌≤◌, ◌↔◌, ◌⊎◌, [], length, map, IfOk, IfErr, OnOk, IfSome, IsSome, IsTrue, slice_index_or};
-ghost use Rattle.dx_ports.specs.declared.limits.TheConstants.{TABLES, COLUMNS};
-ghost use Rattle.dx_ports.specs.Members.{◌∈◌, Each};
+ghost use Rattle.dx_base.specs.declared.limits.TheConstants.{TABLES, COLUMNS};
+ghost use Rattle.dx_base.specs.Members.{◌∈◌, Each};
 ghost use Rattle.dx_model.specs.Tables.{DeterminationsFit, table_of};
 ghost use Rattle.dx_schema.specs.Forest.{forest_of};
 ghost use Rattle.dx_schema.specs.Tables.{count, tables_of, schema_table, tree_at, model_tables, schema_widths, AreTables, IsLink};
@@ -14,8 +14,8 @@ use crate::fault::SchemaFault;
 use crate::nodes::tree_numbered;
 use crate::sets::{SetTree, Trees};
 use crate::tables::Table;
+use dx_base::Text;
 use dx_model::{Dep, Key, Link};
-use dx_ports::Text;
 use std::alloc::{AllocError, Global};
 use std::marker::Model;
 

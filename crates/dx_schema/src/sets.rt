@@ -1,12 +1,12 @@
 // Sets as they are declared, each with its inner sets.
 ghost use Rattle.std.specs.Prelude.{◌≡◌, ◌≤◌, ◌↔◌, OnOk, OnErr, IsTrue, not};
-ghost use Rattle.dx_ports.specs.declared.limits.TheConstants.{TABLES};
+ghost use Rattle.dx_base.specs.declared.limits.TheConstants.{TABLES};
 ghost use Rattle.dx_schema.specs.Bounds.{HasFewRules};
 ghost use Rattle.dx_schema.specs.Forest.{bare_set, forest_of, followed_by, has_sets, none, set};
 ghost use Rattle.dx_schema.specs.Tables.{count};
 
 use crate::nodes::count_sets;
-use dx_ports::{Items, Text};
+use dx_base::{Items, Text};
 use std::alloc::{AllocError, Global};
 use std::marker::Model;
 

@@ -1,6 +1,6 @@
 // Sets as tables.
 ghost use Rattle.std.specs.Prelude.{◌≡◌, ◌<◌, ◌≤◌, ◌+◌, ◌^◌, ◌++◌, [], ◌∷◌, length, map, codes, IfOk, slice_index_or};
-ghost use Rattle.dx_ports.specs.declared.limits.TheConstants.{TABLES, COLUMNS};
+ghost use Rattle.dx_base.specs.declared.limits.TheConstants.{TABLES, COLUMNS};
 ghost use Rattle.dx_schema.specs.Tables.{columns_of, count, numbers_of_names, where_inner, where_has_inner, key_named, keys_in, dep_named, deps_in, link_of, link_up, links_in, optional_in, table_in};
 ghost use Rattle.dx_schema.specs.Nodes.{node_view};
 ghost use Rattle.dx_schema.specs.Making.{IsColumnLists, IsOverview, IsOwnList, IsReadyForTables};
@@ -9,8 +9,8 @@ use crate::checks::columns_made;
 use crate::names::{copies, number_among, numbers_among};
 use crate::nodes::{Node, numbers_made};
 use crate::sets::{DepDecl, KeyDecl, RefDecl};
+use dx_base::{Items, Text};
 use dx_model::{Dep, Key, Link};
-use dx_ports::{Items, Text};
 use std::alloc::{AllocError, Global};
 
 /// A table: a name, the names of its columns, and its keys, dependencies and links by the numbers of columns and tables.

@@ -2,8 +2,8 @@
 use Rattle.std.proofs.Common.{◌≡◌, true, false, [], ◌∷◌, ◌++◌, refl, ap, arith}
 use Rattle.std.specs.Prelude.{codes}
 use Rattle.std.proofs.lemmas.Bool.{false≢true}
-use Rattle.dx_ports.specs.Members.{here}
-use Rattle.dx_ports.proofs.Members.{each_cons}
+use Rattle.dx_base.specs.Members.{here}
+use Rattle.dx_base.proofs.Members.{each_cons}
 use Rattle.dx_schema.specs.Forest.{Label, bare_set, none, set, has_sets}
 use Rattle.dx_schema_text.specs.declared.texts.MappingText.{MappingText}
 use Rattle.dx_schema_text.specs.Print.{AreNames, AreWritable, HasWordNames, IsOfVersion, IsReadAgain, printed}

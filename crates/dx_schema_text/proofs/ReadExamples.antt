@@ -556,6 +556,11 @@ behind_the_mapping : read (with_items (codes "1") (codes "$")) ≡ Err (At 26 Ch
 unfolding read
 behind_the_mapping = refl
 
+-- it says no mapping, though the tokens before that byte spell one
+says_no_mapping : (m : MappingText) → ¬ IsMappingText (with_items (codes "1") (codes "$")) m
+unfolding read
+says_no_mapping m h = absurd (cc h.no_stop)
+
 -- a string that is cut is told at the end of the text if a string can stand there, and else at its begin
 cut_string : read (with_items (codes "1") (codes "line \"k")) ≡ Err (At 33 Ended)
 unfolding read

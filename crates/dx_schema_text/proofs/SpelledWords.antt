@@ -1,7 +1,7 @@
 -- The names of sets that are read are words, each list of them has one, and no set is too deep.
 use Rattle.std.proofs.Common.{◌≡◌, ℕ, suc, ◌≤◌, Bool, true, List, [], ◌∷◌, ◌++◌, refl, arith}
-use Rattle.dx_ports.specs.Members.{Each}
-use Rattle.dx_ports.proofs.Members.{each_cons}
+use Rattle.dx_base.specs.Members.{Each}
+use Rattle.dx_base.proofs.Members.{each_cons}
 use Rattle.dx_tokens.specs.declared.tokenizer.TokenKind.{TokenKind}
 use Rattle.dx_tokens.specs.declared.tokenizer.TokenKind.TheVariants.{Word, Number, Str, Mark}
 use Rattle.dx_tokens.specs.declared.scanner.Lexeme.{Lexeme}

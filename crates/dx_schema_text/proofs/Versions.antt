@@ -1,7 +1,7 @@
 -- What a text says is of its version: before version 3 it has no dependencies, and before version 2 no optional refs and no conditions.
 use Rattle.std.proofs.Common.{◌≡◌, ℕ, Bool, true, false, List, [], refl}
-use Rattle.dx_ports.specs.Members.{Each}
-use Rattle.dx_ports.proofs.Members.{each_cons}
+use Rattle.dx_base.specs.Members.{Each}
+use Rattle.dx_base.proofs.Members.{each_cons}
 use Rattle.dx_tokens.specs.declared.scanner.Lexeme.{Lexeme}
 use Rattle.dx_grammar.specs.Readers.{Many, no_more, one_more}
 use Rattle.dx_schema.specs.declared.sets.RefDecl.{RefDecl}

@@ -1,8 +1,8 @@
 -- The text of sets, as a mapping text has them.
 use Rattle.std.specs.Prelude.{◌≡◌, ℕ, ◌≤◌, ◌+◌, Bool, true, false, List, [], ◌∷◌, ◌++◌, codes}
 use Rattle.std.specs.List.{flat_map}
-use Rattle.dx_ports.specs.declared.limits.TheConstants.{DEPTH}
-use Rattle.dx_ports.specs.Members.{Each}
+use Rattle.dx_base.specs.declared.limits.TheConstants.{DEPTH}
+use Rattle.dx_base.specs.Members.{Each}
 use Rattle.dx_schema.specs.declared.sets.KeyDecl.{KeyDecl}
 use Rattle.dx_schema.specs.declared.sets.DepDecl.{DepDecl}
 use Rattle.dx_schema.specs.declared.sets.RefDecl.{RefDecl}

@@ -1,6 +1,6 @@
 -- What a mapping text says, and its first fault.
 use Rattle.std.specs.Prelude.{◌≡◌, ◌⊎◌, ℕ, zero, suc, ◌-◌, List, [], ◌∷◌, ◌++◌, length, take, codes, Option, Some, None, Result, Ok, Err, Bool, true, false, nat_le, slice_index_or}
-use Rattle.dx_ports.specs.declared.limits.TheConstants.{DEPTH}
+use Rattle.dx_base.specs.declared.limits.TheConstants.{DEPTH}
 use Rattle.dx_schema.specs.Forest.{Forest, Tree}
 use Rattle.dx_grammar.specs.Forms.{Form, Starts}
 use Rattle.dx_grammar.specs.Faults.{IsUnexpectedAt, IsStoppedAt}

@@ -5,8 +5,8 @@ ghost use Rattle.dx_schema_text.specs.Grammar.{since_two};
 ghost use Rattle.dx_schema_text.specs.Reading.{key_reader, dependency_of, decided_reader, dep_reader, begins_determination, determination_reader, reference_of, optional_reader, referred_reader, ref_reader, key_clause, dep_clause, ref_clause, set_clause, begins_clause, last_clause_reader, clause_reader_with, clause_reader, set_head_reader, set_reader, tree_of_clauses};
 
 use crate::lexemes::{keyword, mark, names, next_is_keyword, word};
+use dx_base::{Items, Text};
 use dx_grammar::ReadError;
-use dx_ports::{Items, Text};
 use dx_schema::{DepDecl, KeyDecl, RefDecl, SetTree, Trees};
 use dx_tokens::Lexeme;
 use std::alloc::{AllocError, Global};

@@ -4,8 +4,8 @@ ghost use Rattle.dx_grammar.specs.Readers.{token, next_is, many, with_front, Rea
 ghost use Rattle.dx_schema_text.specs.Grammar.{is_word, is_string, word_is, digit_is, mark_is};
 ghost use Rattle.dx_schema_text.specs.Reading.{comma_word, words_reader};
 
+use dx_base::{Items, Text};
 use dx_grammar::ReadError;
-use dx_ports::{Items, Text};
 use dx_tokens::{Lexeme, TokenKind};
 use std::alloc::Global;
 

@@ -6,8 +6,8 @@ ghost use Rattle.dx_schema_text.specs.Reading.{place_reader, comma_place, places
 
 use crate::lexemes::{keyword, mark, next_is_mark, next_is_string, string, word};
 use crate::texts::{LineText, OnlyText, PlaceText, SourceText};
+use dx_base::Items;
 use dx_grammar::ReadError;
-use dx_ports::Items;
 use dx_tokens::Lexeme;
 use std::alloc::Global;
 

@@ -3,7 +3,7 @@ ghost use Rattle.std.specs.Prelude.{◌≡◌, ℕ, ◌++◌, [], IfOk, OnOk, fl
 ghost use Rattle.dx_schema.specs.Forest.{forest_of};
 ghost use Rattle.dx_schema_text.specs.Print.{AreWritable, IsKnownVersion, IsReadAgain, front_lines, group, head_lines, dep_line, key_line, last_line, names_text, optional_text, printed, ref_line, wider};
 
-use dx_ports::Text;
+use dx_base::Text;
 use dx_schema::{DepDecl, KeyDecl, RefDecl, SetTree};
 use std::alloc::{AllocError, Global};
 

@@ -8,9 +8,9 @@ ghost use Rattle.dx_schema_text.specs.Texts.{begun_in, fault_in, stops_by, unexp
 
 use crate::mapping::whole_mapping;
 use crate::texts::MappingText;
+use dx_base::Items;
+use dx_base::limits::DEPTH;
 use dx_grammar::ReadError;
-use dx_ports::Items;
-use dx_ports::limits::DEPTH;
 use dx_tokens::{Lexeme, Scanned, Stop, TextFault, TextKind, scan};
 use std::alloc::{AllocError, Global};
 

@@ -6,8 +6,8 @@ ghost use Rattle.dx_schema_text.specs.Reading.{name_reader, literal_reader, cell
 
 use crate::lexemes::{keyword, mark, next_is_keyword, next_is_mark, next_is_word, string, word};
 use crate::texts::{AtomText, CellText, DerivedText, RuleText};
+use dx_base::Items;
 use dx_grammar::ReadError;
-use dx_ports::Items;
 use dx_tokens::Lexeme;
 use std::alloc::Global;
 

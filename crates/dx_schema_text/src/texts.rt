@@ -1,5 +1,5 @@
 // What a mapping text says, with the places of its words. A place counts the bytes before it.
-use dx_ports::{Items, Text};
+use dx_base::{Items, Text};
 use dx_schema::Trees;
 
 /// A column of a set, as a line names it.

@@ -1,9 +1,9 @@
 -- The plain and the rewritten script fit.
 use Rattle.std.proofs.Common.{ℕ, ◌<◌, List, [], length, inl, inr, subst}
 use Rattle.std.specs.Prelude.{map}
-use Rattle.dx_ports.specs.Members.{◌∈◌, Each}
-use Rattle.dx_ports.proofs.Members.{in_map, from_map, in_flat_map, from_flat_map}
-use Rattle.dx_ports.proofs.Tests.{from_filter}
+use Rattle.dx_base.specs.Members.{◌∈◌, Each}
+use Rattle.dx_base.proofs.Members.{in_map, from_map, in_flat_map, from_flat_map}
+use Rattle.dx_base.proofs.Tests.{from_filter}
 use Rattle.dx_model.specs.declared.rules.Cell.{Cell}
 use Rattle.dx_model.specs.declared.rules.Cell.TheVariants.{Var, Ex, Lit}
 use Rattle.dx_model.specs.declared.rules.Atom.{Atom}

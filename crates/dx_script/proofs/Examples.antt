@@ -5,7 +5,7 @@ use Rattle.dx_model.specs.declared.rules.Rule.{Rule}
 use Rattle.std.specs.Prelude.{codes}
 use Rattle.dx_schema.specs.Names.{TableNames}
 use Rattle.dx_funcs.specs.declared.conversion.Conversion.{Conversion}
-use Rattle.dx_ports.specs.Texts.{Text}
+use Rattle.dx_base.specs.Texts.{Text}
 use Rattle.dx_script.specs.declared.form.CellRef.{CellRef}
 use Rattle.dx_script.specs.declared.form.Step.{Step}
 use Rattle.dx_script.specs.declared.form.Step.TheVariants.{Create, MatchRows, KeepRows, InsertRows}
@@ -14,7 +14,7 @@ use Rattle.dx_script.specs.declared.form.Select.TheVariants.{Cell as Shown, Call
 use Rattle.dx_script.specs.declared.form.Out.TheVariants.{Column, Literal, Skolem}
 use Rattle.dx_script.specs.declared.form.Test.TheVariants.{Columns, Literal as Same}
 use Rattle.dx_script.specs.declared.form.Unless.{Unless}
-use Rattle.dx_ports.specs.Members.{here, there}
+use Rattle.dx_base.specs.Members.{here, there}
 use Rattle.dx_script.specs.Fits.{CellFits, FitsScript, InsertFits, KeepFits, MatchFits, ReadsKept, SelectFits, TestFits, UnlessFits}
 use Rattle.dx_script.specs.Generated.{equals, plain_steps, spots}
 use Rattle.dx_script.specs.Rewritten.{rewritten_steps, unless_parts}
@@ -82,6 +82,19 @@ of_a_literal : unless_parts (wide ∷ fixed ∷ []) 0
     ≡ record { rule = 1; tests = Columns 0 0 ∷ Same 1 (codes "z") ∷ [] } ∷ []
 unfolding wide fixed
 of_a_literal = refl
+
+-- so it is if the literal comes first: the test is of the column that the tuple itself has
+fixed_first : Rule
+fixed_first = record {
+  premise = record { table = 0; cells = Var 0 ∷ Var 1 ∷ [] } ∷ [];
+  derived = [];
+  conclusion = record { table = 0; cells = Lit (codes "z") ∷ Var 1 ∷ [] } ∷ [];
+}
+
+of_a_literal_first : unless_parts (wide ∷ fixed_first ∷ []) 0
+    ≡ record { rule = 1; tests = Same 0 (codes "z") ∷ Columns 0 1 ∷ [] } ∷ []
+unfolding wide fixed_first
+of_a_literal_first = refl
 
 -- each further cell of a variable is equal to its first one: A(x0, x0), A(x0, x1)
 thrice : Rule
@@ -159,6 +172,11 @@ keeps_of_nothing unless h = let r = (h.each table_alone [] (KeepRows 0 unless) r
 -- a cell of an alias that is not there, or of another column
 no_alias : ¬ CellFits source (codes "A" ∷ []) (record { alias = 1; column = codes "a" })
 no_alias h = omega (arith, h.alias)
+
+-- even if a table has the empty name, which an alias that is not there is given
+no_alias_without_name :
+    ¬ CellFits (record { name = []; columns = codes "a" ∷ [] } ∷ []) [] (record { alias = 0; column = codes "a" })
+no_alias_without_name h = omega (arith, h.alias)
 
 other_name : (name : List ℕ) (first : ℕ) → name ≡ codes "c" → get_or name 0 0 ≡ first → first < 99 → ⊥
 other_name name first e f less =
@@ -245,10 +263,18 @@ kept_too_early unless h = omega (arith, h.rule)
 kept_again : (unless : List Unless) → ¬ KeepFits (KeepRows 0 unless ∷ []) 0 unless
 kept_again unless h = h.one (here refl)
 
+-- even after its match table
+kept_twice : ¬ KeepFits (MatchRows 0 [] [] [] ∷ KeepRows 0 [] ∷ []) 0 []
+kept_twice h = h.one (here refl)
+
 -- an insert into a table that is not created yet, of too few cells, of a keep table that comes later, and of the match table
 -- where tuples are kept
 not_created : (cells : List Out) → ¬ InsertFits target before [] (codes "T") 0 false cells
 not_created cells h = elim h.made [ ]
+
+-- even if its match table is there
+not_created_yet : (cells : List Out) → ¬ InsertFits target [] (MatchRows 0 [] [] [] ∷ []) (codes "T") 0 false cells
+not_created_yet cells h = elim h.made [ ]
 
 too_few_columns : ¬ InsertFits target before before (codes "T") 0 false (Column 0 ∷ [])
 unfolding target before

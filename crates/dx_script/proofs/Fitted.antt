@@ -7,14 +7,14 @@ use Rattle.std.proofs.lemmas.List.{append-nil, get_or-map, length-map, get_or_ap
 use Rattle.std.proofs.Math.Seq.{get_or-append_seam}
 use Rattle.std.proofs.lemmas.Grind.{flat_map-append}
 use Rattle.std.proofs.lemmas.List.Concat.{flat_map_single}
-use Rattle.dx_ports.specs.Members.{◌∈◌, here, there, Each}
-use Rattle.dx_ports.proofs.Members.{in_at, in_map, from_map, in_left, in_right, in_flat_map, from_flat_map}
+use Rattle.dx_base.specs.Members.{◌∈◌, here, there, Each}
+use Rattle.dx_base.proofs.Members.{in_at, in_map, from_map, in_left, in_right, in_flat_map, from_flat_map}
 use Rattle.dx_model.specs.declared.rules.Cell.{Cell}
 use Rattle.dx_model.specs.declared.rules.Cell.TheVariants.{Var, Ex, Lit}
 use Rattle.dx_model.specs.declared.rules.Atom.{Atom}
 use Rattle.dx_model.specs.declared.rules.Derived.{Derived}
 use Rattle.dx_model.specs.declared.rules.Rule.{Rule}
-use Rattle.dx_ports.specs.Texts.{Text}
+use Rattle.dx_base.specs.Texts.{Text}
 use Rattle.dx_model.specs.Rules.{cells_of, after_cells, exported}
 use Rattle.dx_model.specs.Covers.{below, rule_at}
 use Rattle.dx_model.proofs.Lists.{in_below, from_below, length_below}

@@ -4,10 +4,10 @@ use Rattle.std.specs.Prelude.{IsTrue, ◌↔◌, true, false, Bool, map, flat_ma
 use Rattle.std.proofs.lemmas.Bool.{false≢true, cases_lt}
 use Rattle.std.proofs.lemmas.List.{drop_more, drop_all, get_or-map, length-map}
 use Rattle.std.proofs.lemmas.Simd.{map-map}
-use Rattle.dx_ports.specs.Members.{◌∈◌, here, there}
-use Rattle.dx_ports.proofs.Members.{in_right, from_append}
-use Rattle.dx_ports.proofs.Lists.{cut_at}
-use Rattle.dx_ports.specs.Texts.{Text}
+use Rattle.dx_base.specs.Members.{◌∈◌, here, there}
+use Rattle.dx_base.proofs.Members.{in_right, from_append}
+use Rattle.dx_base.proofs.Lists.{cut_at}
+use Rattle.dx_base.specs.Texts.{Text}
 use Rattle.dx_schema.specs.Forest.{Forest}
 use Rattle.dx_schema.specs.Tables.{AreTables, TableOf, tables_of, schema_table, number_of_name}
 use Rattle.dx_schema.specs.Names.{TableNames, table_names_of, names_of_table}

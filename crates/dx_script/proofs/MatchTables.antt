@@ -11,9 +11,9 @@ use Rattle.dx_model.specs.declared.rules.Cell.TheVariants.{Var, Ex, Lit}
 use Rattle.dx_model.specs.declared.rules.Atom.{Atom}
 use Rattle.dx_model.specs.declared.rules.Derived.{Derived}
 use Rattle.dx_model.specs.declared.rules.Rule.{Rule}
-use Rattle.dx_ports.specs.Members.{◌∈◌, here, there}
+use Rattle.dx_base.specs.Members.{◌∈◌, here, there}
 use Rattle.dx_model.specs.Rules.{cell_value, premise_fact, cells_of, after_cells, exported, Derive, IsMatch}
-use Rattle.dx_ports.proofs.Members.{in_flat_map}
+use Rattle.dx_base.proofs.Members.{in_flat_map}
 use Rattle.dx_script.specs.declared.form.Equal.{Equal}
 use Rattle.dx_schema.specs.Names.{TableNames}
 use Rattle.dx_funcs.specs.declared.conversion.Conversion.{Conversion}
@@ -23,11 +23,11 @@ use Rattle.dx_script.specs.Meaning.{table_of_alias, alias_cell_text as shown, se
 use Rattle.dx_script.specs.Meaning.{IsAssignment, IsMatchTable}
 use Rattle.dx_model.specs.Rules.{IsRows}
 use Rattle.dx_model.specs.Values.{Tuple, Conversions}
-use Rattle.dx_ports.specs.Texts.{Text}
+use Rattle.dx_base.specs.Texts.{Text}
 use Rattle.dx_script.specs.Generated.{Spot, spots, first_spot, shows, equals, select_of, selects_of, sources_of}
 use Rattle.dx_script.proofs.RuleFacts.{premise_fits, premise_variable, stands, arguments_below, exported_known, NamesFit, WidthsFit}
-use Rattle.dx_ports.proofs.Members.{in_at}
-use Rattle.dx_ports.proofs.Tests.{map_same}
+use Rattle.dx_base.proofs.Members.{in_at}
+use Rattle.dx_base.proofs.Tests.{map_same}
 use Rattle.dx_model.proofs.RowsExist.{below_after}
 use Rattle.dx_script.proofs.NameFacts.{table_number, column_number, calls_by_name}
 use Rattle.dx_script.proofs.Spots.{atom_at, cell_in, from_spots, in_spots, standing_spots, first_stands, from_equals, in_equals}

@@ -6,10 +6,10 @@ use Rattle.std.proofs.lemmas.Bool.{cases_Bool}
 use Rattle.std.proofs.lemmas.Bool.Decides.{leb_tells}
 use Rattle.std.proofs.lemmas.Slice.Eq.{bytes_eq-Decides}
 use Rattle.std.proofs.lemmas.List.{get_or-map, length-map}
-use Rattle.dx_ports.specs.Members.{◌∈◌, Distinct}
-use Rattle.dx_ports.proofs.Members.{in_at, in_map}
+use Rattle.dx_base.specs.Members.{◌∈◌, Distinct}
+use Rattle.dx_base.proofs.Members.{in_at, in_map}
 use Rattle.dx_model.specs.Values.{Tuple, Conversions}
-use Rattle.dx_ports.specs.Texts.{Text}
+use Rattle.dx_base.specs.Texts.{Text}
 use Rattle.dx_schema.specs.Tables.{number_of_name}
 use Rattle.dx_schema.specs.Names.{TableNames, HaveDistinctNames}
 use Rattle.dx_funcs.specs.declared.conversion.Conversion.{Conversion}

@@ -2,9 +2,9 @@
 use Rattle.std.proofs.Common.{◌≡◌, ℕ, ◌<◌, Bool, true, List, [], ◌∷◌, length, refl, subst, inl, inr}
 use Rattle.dx_model.specs.declared.rules.Atom.{Atom}
 use Rattle.dx_model.specs.declared.rules.Rule.{Rule}
-use Rattle.dx_ports.specs.Members.{◌∈◌, here, there}
+use Rattle.dx_base.specs.Members.{◌∈◌, here, there}
 use Rattle.dx_model.specs.Covers.{rule_at}
-use Rattle.dx_ports.proofs.Members.{in_map, from_map, in_left, in_right, from_append, in_flat_map}
+use Rattle.dx_base.proofs.Members.{in_map, from_map, in_left, in_right, from_append, in_flat_map}
 use Rattle.dx_script.specs.declared.form.Select.{Select}
 use Rattle.dx_script.specs.declared.form.Equal.{Equal}
 use Rattle.dx_script.specs.declared.form.Unless.{Unless}
@@ -17,7 +17,7 @@ use Rattle.dx_model.proofs.Lists.{in_below, from_below}
 use Rattle.dx_schema.specs.Names.{TableNames}
 use Rattle.dx_funcs.specs.declared.conversion.Conversion.{Conversion}
 use Rattle.dx_script.specs.Generated.{create_steps, match_step, match_steps, keep_step, keep_steps, has_parts, insert_step, inserts_of, insert_steps, script_with}
-use Rattle.dx_ports.proofs.Members.{from_flat_map}
+use Rattle.dx_base.proofs.Members.{from_flat_map}
 
 -- ---- the steps of rules
 

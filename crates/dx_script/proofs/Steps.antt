@@ -11,10 +11,10 @@ use Rattle.dx_model.specs.declared.rules.Cell.{Cell}
 use Rattle.dx_model.specs.declared.rules.Cell.TheVariants.{Var, Ex, Lit}
 use Rattle.dx_model.specs.declared.rules.Atom.{Atom}
 use Rattle.dx_model.specs.declared.rules.Rule.{Rule}
-use Rattle.dx_ports.specs.Members.{◌∈◌, ◌⊆◌, here, there}
+use Rattle.dx_base.specs.Members.{◌∈◌, ◌⊆◌, here, there}
 use Rattle.dx_model.specs.Rules.{cell_value, fact_of_atom, cells_of, exported, text_of, IsRows, AreRows, at_place, canonical}
 use Rattle.dx_model.specs.Covers.{rule_at, tuple_at}
-use Rattle.dx_ports.proofs.Members.{in_map, from_map, in_flat_map}
+use Rattle.dx_base.proofs.Members.{in_map, from_map, in_flat_map}
 use Rattle.dx_model.proofs.Canonical.{in_variables}
 use Rattle.dx_model.proofs.CoverFold.{in_canonical, from_canonical}
 use Rattle.dx_script.specs.declared.form.Select.{Select}
@@ -23,7 +23,7 @@ use Rattle.dx_script.specs.declared.form.Unless.{Unless}
 use Rattle.dx_script.specs.declared.form.Step.{Step}
 use Rattle.dx_script.specs.declared.form.Step.TheVariants.{Create, MatchRows, KeepRows, InsertRows}
 use Rattle.dx_model.specs.Values.{Tuple, Rows, Conversions}
-use Rattle.dx_ports.specs.Texts.{Text}
+use Rattle.dx_base.specs.Texts.{Text}
 use Rattle.dx_schema.specs.Names.{TableNames}
 use Rattle.dx_funcs.specs.declared.conversion.Conversion.{Conversion}
 use Rattle.dx_funcs.specs.Names.{call_named}
@@ -31,8 +31,8 @@ use Rattle.dx_script.specs.Names.{table_numbered, table_named}
 use Rattle.dx_script.specs.Meaning.{match_table, in_column, HasNoPartner, IsInKeepTable, inserted, IsInserted, IsMatchTable, Means}
 use Rattle.dx_script.specs.Generated.{match_step, has_parts, out_of, plain_steps, script_with}
 use Rattle.dx_script.specs.Laws.{IsLeftPlace}
-use Rattle.dx_ports.proofs.Members.{in_at}
-use Rattle.dx_ports.proofs.Tests.{map_same}
+use Rattle.dx_base.proofs.Members.{in_at}
+use Rattle.dx_base.proofs.Tests.{map_same}
 use Rattle.dx_script.proofs.NameFacts.{table_number}
 use Rattle.dx_script.proofs.RuleFacts.{NamesFit, WidthsFit, conclusion_fits}
 use Rattle.dx_script.proofs.Parts.{a_match, a_keep, an_insert, match_in, keep_in, insert_in}

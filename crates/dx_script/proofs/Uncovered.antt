@@ -9,10 +9,10 @@ use Rattle.dx_model.specs.declared.rules.Cell.TheVariants.{Var, Ex, Lit}
 use Rattle.dx_model.specs.declared.rules.Atom.{Atom}
 use Rattle.dx_model.specs.declared.rules.Rule.{Rule}
 use Rattle.dx_model.specs.declared.covers.CellMap.{CellMap}
-use Rattle.dx_ports.specs.Members.{◌∈◌, ◌⊆◌}
+use Rattle.dx_base.specs.Members.{◌∈◌, ◌⊆◌}
 use Rattle.dx_model.specs.Rules.{cells_of, exported, text_of}
 use Rattle.dx_model.specs.Covers.{rule_at, tuple_at, cell_value_at, cell_under, uncovered}
-use Rattle.dx_ports.proofs.Members.{in_map, from_map, in_flat_map, from_flat_map}
+use Rattle.dx_base.proofs.Members.{in_map, from_map, in_flat_map, from_flat_map}
 use Rattle.dx_model.proofs.Canonical.{in_variables, from_variables}
 use Rattle.dx_model.proofs.CoverFold.{in_uncovered, from_uncovered}
 use Rattle.dx_model.specs.Covers.{below, before, used_maps, least_cover}
@@ -34,8 +34,8 @@ use Rattle.dx_funcs.specs.declared.conversion.Conversion.{Conversion}
 use Rattle.dx_funcs.specs.Names.{call_named}
 use Rattle.dx_script.specs.Meaning.{Means}
 use Rattle.dx_script.specs.Rewritten.{rewritten_steps}
-use Rattle.dx_ports.proofs.Members.{in_at}
-use Rattle.dx_ports.proofs.Tests.{from_filter}
+use Rattle.dx_base.proofs.Members.{in_at}
+use Rattle.dx_base.proofs.Tests.{from_filter}
 use Rattle.dx_script.proofs.RuleFacts.{NamesFit, WidthsFit, conclusion_fits}
 use Rattle.dx_script.proofs.MatchTables.{index_of}
 use Rattle.dx_script.proofs.Steps.{rows_at, column_text, script_means_left}

@@ -1,7 +1,7 @@
 -- What the scripts of rules mean.
 use Rattle.std.specs.Prelude.{◌≡◌, ◌↔◌, ℕ, List, length}
-use Rattle.dx_ports.specs.Members.{◌∈◌, ◌⊆◌, Each}
-use Rattle.dx_ports.specs.Texts.{Text}
+use Rattle.dx_base.specs.Members.{◌∈◌, ◌⊆◌, Each}
+use Rattle.dx_base.specs.Texts.{Text}
 use Rattle.dx_model.specs.declared.facts.Fact.{Fact}
 use Rattle.dx_model.specs.declared.rules.Rule.{Rule}
 use Rattle.dx_model.specs.Values.{Tuple, Rows, Conversions}

@@ -1,7 +1,7 @@
 -- What a script means on the rows of a source.
 use Rattle.std.specs.Prelude.{◌≡◌, ◌↔◌, ℕ, ◌<◌, Bool, IsTrue, List, [], map, length, slice_index_or}
-use Rattle.dx_ports.specs.Members.{◌∈◌}
-use Rattle.dx_ports.specs.Texts.{Text}
+use Rattle.dx_base.specs.Members.{◌∈◌}
+use Rattle.dx_base.specs.Texts.{Text}
 use Rattle.dx_model.specs.Values.{Tuple, Rows}
 use Rattle.dx_model.specs.declared.values.Value.{Value}
 use Rattle.dx_model.specs.declared.values.Value.TheVariants.{Const, Null}

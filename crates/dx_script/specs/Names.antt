@@ -1,6 +1,6 @@
 -- Tables and columns by their names.
 use Rattle.std.specs.Prelude.{◌≡◌, ◌<◌, ℕ, List, [], length, map, slice_index_or}
-use Rattle.dx_ports.specs.Texts.{Text}
+use Rattle.dx_base.specs.Texts.{Text}
 use Rattle.dx_schema.specs.Tables.{number_of_name}
 use Rattle.dx_schema.specs.Names.{TableNames}
 

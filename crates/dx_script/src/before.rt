@@ -1,11 +1,11 @@
 // What the steps before a step make.
 ghost use Rattle.std.specs.Prelude.{◌≡◌, ◌↔◌, ◌<◌, ◌≤◌, IsTrue, List, MatchOption, length, map, slice_index_or};
-ghost use Rattle.dx_ports.specs.Members.{◌∈◌};
-ghost use Rattle.dx_ports.specs.Texts.{Text as AnyText};
+ghost use Rattle.dx_base.specs.Members.{◌∈◌};
+ghost use Rattle.dx_base.specs.Texts.{Text as AnyText};
 ghost use Rattle.dx_script.specs.Fits.{created, rules_with_keep, match_widths};
 
 use crate::form::Step;
-use dx_ports::Text;
+use dx_base::Text;
 
 /// How many match tables the steps make.
 pub(crate) fn match_count(steps: &[Step]) -> usize

@@ -8,8 +8,8 @@ ghost use Rattle.dx_script.specs.Fits.{FitsScript, InsertFits, KeepFits, MatchFi
 use crate::before::{is_created, is_kept, match_count, match_width, through_keeps};
 use crate::form::{Equal, Out, Script, Select, Step, Unless};
 use crate::step_parts::{are_tables, equals_fit, outs_fit, selects_fit, unless_fit, width_named};
+use dx_base::{Items, Text};
 use dx_funcs::{Host, Meaning};
-use dx_ports::{Items, Text};
 use dx_schema::Schema;
 use std::alloc::AllocError;
 

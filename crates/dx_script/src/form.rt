@@ -1,5 +1,5 @@
 // Scripts: lists of steps that make a target of a source.
-use dx_ports::{Items, Text};
+use dx_base::{Items, Text};
 
 /// A cell of a source row, by the alias of the row and the name of its column.
 #[derive(Drop)]

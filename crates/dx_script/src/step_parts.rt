@@ -1,6 +1,6 @@
 // Whether the parts of a step fit.
 ghost use Rattle.std.specs.Prelude.{◌≡◌, ◌↔◌, ◌<◌, IsTrue, length};
-ghost use Rattle.dx_ports.specs.Members.{◌∈◌, Each};
+ghost use Rattle.dx_base.specs.Members.{◌∈◌, Each};
 ghost use Rattle.dx_schema.specs.Names.{table_names_of};
 ghost use Rattle.dx_funcs.specs.Names.{TakesTexts};
 ghost use Rattle.dx_funcs.specs.Serving.{offered};
@@ -9,8 +9,8 @@ ghost use Rattle.dx_script.specs.Fits.{CellFits, EqualFits, HasColumn, OutFits, 
 
 use crate::before::match_width;
 use crate::form::{CellRef, Equal, Out, Select, Step, Test, Unless};
+use dx_base::{Items, Text};
 use dx_funcs::{Host, Meaning};
-use dx_ports::{Items, Text};
 use dx_schema::Schema;
 use std::alloc::AllocError;
 

@@ -11,8 +11,8 @@ use Rattle.dx_script.specs.declared.form.Select.TheVariants as selected
 use Rattle.dx_script.specs.declared.form.Test.TheVariants as tested
 use Rattle.dx_script.specs.declared.form.Out.TheVariants as outs
 use Rattle.dx_script.specs.declared.form.Step.TheVariants as steps
-use Rattle.dx_ports.specs.Members.{Each}
-use Rattle.dx_ports.proofs.Members.{each_cons}
+use Rattle.dx_base.specs.Members.{Each}
+use Rattle.dx_base.proofs.Members.{each_cons}
 use Rattle.dx_tokens.specs.Tokens.{is_word_byte}
 use Rattle.dx_script_text.specs.Printable.{AreCounted, AreSome, IsCellRef, IsEqual, IsScriptName, IsOut, IsPrintableScript, IsSelect, NumberFits, IsStep, IsTest, IsUnless}
 use Rattle.dx_script_text.specs.Print.{create_text, match_text, keep_text, insert_text, script_text}

@@ -4,7 +4,7 @@ use Rattle.std.specs.Prelude.{IfOk, Result, Ok, Err, codes, decimal}
 use Rattle.std.proofs.lemmas.List.{take_all}
 use Rattle.std.proofs.lemmas.Bool.Decides.{nat_tests}
 use Rattle.std.proofs.lemmas.Fmt.{decimal_digit}
-use Rattle.dx_ports.specs.Members.{Each, here, there}
+use Rattle.dx_base.specs.Members.{Each, here, there}
 use Rattle.dx_grammar.specs.Readers.{no_more, one_more}
 use Rattle.dx_grammar.specs.Lists.{SpellsList}
 use Rattle.dx_grammar.specs.Numbers.{has_number}

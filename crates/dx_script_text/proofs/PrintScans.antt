@@ -3,7 +3,7 @@ use Rattle.std.proofs.Common.{◌≡◌, ℕ, suc, ◌+◌, ◌≤◌, Bool, tru
 use Rattle.std.specs.Prelude.{IsUtf8, codes, decimal}
 use Rattle.std.proofs.lemmas.List.{append-nil}
 use Rattle.std.proofs.lemmas.Bool.{and_parts}
-use Rattle.dx_ports.specs.Members.{Each, here, there}
+use Rattle.dx_base.specs.Members.{Each, here, there}
 use Rattle.dx_tokens.specs.Tokens.{is_blank, is_digit, is_word_start, is_word_byte}
 use Rattle.dx_tokens.proofs.Lexed.{AllPass, StopsAt}
 use Rattle.dx_grammar.specs.Readers.{Many, no_more, one_more}

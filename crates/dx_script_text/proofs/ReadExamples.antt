@@ -15,6 +15,7 @@ use Rattle.dx_script.specs.declared.form.Step.TheVariants as steps
 use Rattle.dx_script.specs.declared.form.Script.{Script}
 use Rattle.dx_script_text.specs.Reading.{select_call_reader, alias_cell_reader, cell_value_reader, column_out_reader, columns_reader, comma_item, comma_out, comma_source, create_reader, created_reader, declared_reader, equal_reader, equals_reader, insert_end_reader, insert_reader, insert_tail_reader, select_item_reader, items_reader, keep_reader, keep_tail_reader, matched_reader, match_reader, no_items, optional_tests, out_reader, outs_reader, script_reader, select_reader, skolem_reader, skolem_tail_reader, from_source_reader, sources_reader, step_reader, table_reader, test_reader, tests_reader, text_out_reader, text_reader, unless_reader, value_reader, where_clause_reader}
 use Rattle.dx_tokens.specs.Judged.{Reads}
+use Rattle.dx_script_text.specs.Texts.{IsScriptText}
 use Rattle.dx_script_text.specs.Texts.{AnswersScript, AnswersScriptFault, script_of_tokens, script_of_text, IsScriptFaultOrMemory}
 use Rattle.dx_script_text.proofs.Answered.{never_said_and_faulty, text_fault, text_script}
 
@@ -147,6 +148,11 @@ of_a_partner = refl
 no_character : read (codes "CREATE -") ≡ Err (At 7 Character)
 unfolding read
 no_character = refl
+
+-- such a text says no script, though no token, which it has before that byte, spells one
+says_no_script : (s : Script) → ¬ IsScriptText (codes "-") s
+unfolding read
+says_no_script s h = absurd (cc h.no_stop)
 
 -- ---- what may be answered
 

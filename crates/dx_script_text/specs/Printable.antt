@@ -1,6 +1,6 @@
 -- Scripts whose text is read again.
 use Rattle.std.specs.Prelude.{◌≡◌, ◌≢◌, ℕ, ◌≤◌, true, ◌||◌, ◌==◌, List, [], ◌∷◌, length, IsUtf8}
-use Rattle.dx_ports.specs.Members.{Each}
+use Rattle.dx_base.specs.Members.{Each}
 use Rattle.dx_tokens.specs.Tokens.{is_word_byte}
 use Rattle.dx_script.specs.declared.form.CellRef.{CellRef}
 use Rattle.dx_script.specs.declared.form.Select.{Select}

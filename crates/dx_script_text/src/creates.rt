@@ -5,8 +5,8 @@ ghost use Rattle.dx_script_text.specs.Grammar.{is_comma};
 ghost use Rattle.dx_script_text.specs.Reading.{declared_reader, create_reader};
 
 use crate::tokens::{any_of, next_of};
+use dx_base::{Items, Text};
 use dx_grammar::ReadError;
-use dx_ports::{Items, Text};
 use dx_script::Step;
 use dx_script_tokens::{ScriptKind, ScriptToken};
 use std::alloc::Global;

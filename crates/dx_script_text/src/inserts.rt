@@ -6,8 +6,8 @@ ghost use Rattle.dx_script_text.specs.Grammar.{is_comma};
 ghost use Rattle.dx_script_text.specs.Reading.{text_out_reader, column_out_reader, skolem_tail_reader, skolem_reader, out_reader, comma_out, outs_reader, insert_end_reader, insert_tail_reader, insert_reader};
 
 use crate::tokens::{any_of, is_of, next_of, rule_of, table_of};
+use dx_base::{Items, Text};
 use dx_grammar::ReadError;
-use dx_ports::{Items, Text};
 use dx_script::{Out, Step};
 use dx_script_tokens::{ScriptKind, ScriptToken};
 use std::alloc::Global;

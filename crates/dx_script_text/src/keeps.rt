@@ -6,8 +6,8 @@ ghost use Rattle.dx_script_text.specs.Grammar.{is_and};
 ghost use Rattle.dx_script_text.specs.Reading.{columns_reader, text_reader, test_reader, tests_reader, optional_tests, unless_reader, keep_tail_reader, keep_reader};
 
 use crate::tokens::{any_of, next_of, rule_of, that};
+use dx_base::Items;
 use dx_grammar::ReadError;
-use dx_ports::Items;
 use dx_script::{Step, Test, Unless};
 use dx_script_tokens::{ScriptKind, ScriptToken};
 use std::alloc::Global;

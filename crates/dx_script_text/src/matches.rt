@@ -8,8 +8,8 @@ ghost use Rattle.dx_script_text.specs.Grammar.{is_comma, is_and};
 ghost use Rattle.dx_script_text.specs.Reading.{alias_cell_reader, select_call_reader, cell_value_reader, value_reader, select_item_reader, comma_item, items_reader, no_items, select_reader, from_source_reader, comma_source, sources_reader, and_counted, equal_reader, equals_reader, where_clause_reader, match_step_of, matched_reader, match_reader};
 
 use crate::tokens::{any_of, next_counts, next_has, next_of, that};
+use dx_base::{Items, Text};
 use dx_grammar::ReadError;
-use dx_ports::{Items, Text};
 use dx_script::{CellRef, Equal, Select, Step};
 use dx_script_tokens::{ScriptKind, ScriptToken};
 use std::alloc::Global;

@@ -3,7 +3,7 @@ ghost use Rattle.std.specs.Prelude.{◌≡◌, ◌++◌, OnOk, codes, map, strin
 ghost use Rattle.dx_script_text.specs.Print.{insert_text, out_text, parted, table_letter};
 
 use crate::print_names::{push_name, push_quoted};
-use dx_ports::Text;
+use dx_base::Text;
 use dx_script::Out;
 use std::alloc::AllocError;
 use std::fmt::Write;

@@ -3,7 +3,7 @@ ghost use Rattle.std.specs.Prelude.{◌≡◌, ◌++◌, OnOk, codes, map, strin
 ghost use Rattle.dx_script_text.specs.Print.{call_text, cell_ref_text, equal_text, item_text, match_text, texts_from, parted, select_text, source_alias_text, value_text, where_clause_text};
 
 use crate::print_names::push_name;
-use dx_ports::{Items, Text};
+use dx_base::{Items, Text};
 use dx_script::{CellRef, Equal, Select};
 use std::alloc::AllocError;
 use std::fmt::Write;

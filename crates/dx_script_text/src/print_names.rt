@@ -3,7 +3,7 @@ ghost use Rattle.std.specs.Prelude.{◌≡◌, ◌++◌, OnOk, encode_utf8, stri
 ghost use Rattle.dx_script_tokens.specs.Quoted.{doubled, single_quoted};
 ghost use Rattle.dx_script_text.specs.Print.{name_text};
 
-use dx_ports::Text;
+use dx_base::Text;
 use std::alloc::AllocError;
 
 /// Appends a name in double quotes.

@@ -8,7 +8,7 @@ use crate::print_inserts::push_insert;
 use crate::print_keeps::push_keep;
 use crate::print_matches::push_match;
 use crate::print_names::push_name;
-use dx_ports::Text;
+use dx_base::Text;
 use dx_script::{Script, Step};
 use std::alloc::{AllocError, Global};
 

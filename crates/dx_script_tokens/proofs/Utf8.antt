@@ -7,7 +7,7 @@ use Rattle.std.proofs.lemmas.Bool.Decides.{nat_tests}
 use Rattle.std.proofs.lemmas.List.{take-append-drop, length-drop, length-append, length-take-le}
 use Rattle.std.proofs.lemmas.Str.{IsUtf8-append, IsUtf8-nil, IsUtf8-encode, encode_ascii, inside_one}
 use Rattle.std.proofs.Math.Seq.{drop-append_seam}
-use Rattle.dx_ports.proofs.Members.{each_cons}
+use Rattle.dx_base.proofs.Members.{each_cons}
 use Rattle.dx_tokens.specs.declared.pieces.Item.{Item}
 use Rattle.dx_tokens.specs.declared.pieces.Item.TheVariants as items
 use Rattle.dx_tokens.specs.Tokens.{is_blank, is_digit, is_word_start, is_word_byte, run, wide_at}

@@ -6,7 +6,7 @@ use crate::kinds::{ScriptKind, mark};
 use crate::numbers::numeral;
 use crate::pieces::{Piece, Shape, next_piece};
 use crate::words::word;
-use dx_ports::{Items, Text, TextMade};
+use dx_base::{Items, Text, TextMade};
 use dx_tokens::TextKind;
 use std::alloc::{AllocError, Global};
 

@@ -6,10 +6,10 @@ use Rattle.std.proofs.Common.{take, drop, add-one}
 use Rattle.std.proofs.lemmas.Grind.{flat_map-append}
 use Rattle.std.proofs.lemmas.Bool.{cases_Bool, eq-eqb, ne_eqb}
 use Rattle.std.proofs.Math.Bool.{and-false}
-use Rattle.dx_ports.specs.Members.{◌∈◌, here, there}
-use Rattle.dx_ports.proofs.Members.{in_left, in_right, from_append}
-use Rattle.dx_ports.proofs.Tests.{flat_map_same, map_same}
-use Rattle.dx_ports.proofs.Lists.{cut_at}
+use Rattle.dx_base.specs.Members.{◌∈◌, here, there}
+use Rattle.dx_base.proofs.Members.{in_left, in_right, from_append}
+use Rattle.dx_base.proofs.Tests.{flat_map_same, map_same}
+use Rattle.dx_base.proofs.Lists.{cut_at}
 use Rattle.dx_model.specs.declared.rules.Cell.{Cell}
 use Rattle.dx_model.specs.declared.rules.Cell.TheVariants.{Var, Ex, Lit}
 use Rattle.dx_model.specs.declared.rules.Atom.{Atom}

@@ -2,9 +2,9 @@
 use Rattle.std.proofs.Common.{◌≡◌, ℕ, ◌<◌, ◌≤◌, arith, Bool, false, List, [], ◌++◌, sym, ◌∙◌, ap, length, get_or, append_assoc}
 use Rattle.std.specs.Prelude.{map, flat_map}
 use Rattle.std.proofs.lemmas.List.{get_or-map}
-use Rattle.dx_ports.proofs.Tests.{flat_map_same}
-use Rattle.dx_ports.specs.Members.{◌∈◌, Each}
-use Rattle.dx_ports.proofs.Members.{from_flat_map}
+use Rattle.dx_base.proofs.Tests.{flat_map_same}
+use Rattle.dx_base.specs.Members.{◌∈◌, Each}
+use Rattle.dx_base.proofs.Members.{from_flat_map}
 use Rattle.dx_model.specs.declared.rules.Atom.{Atom}
 use Rattle.dx_model.specs.declared.rules.Rule.{Rule}
 use Rattle.dx_model.specs.Tables.{Table}
@@ -21,7 +21,7 @@ use Rattle.dx_script.specs.declared.form.Step.{Step}
 use Rattle.dx_script.specs.Generated.{create_steps, has_parts, inserts_of, insert_steps, keep_step, keep_steps, match_steps, script_with}
 use Rattle.dx_script.proofs.Fitted.{at_below}
 use Rattle.dx_schema.specs.Tables.{no_table}
-use Rattle.dx_ports.proofs.Members.{in_at}
+use Rattle.dx_base.proofs.Members.{in_at}
 use Rattle.dx_schema.proofs.Facts.{atom_table, atom_width}
 
 -- the steps of all kinds, one kind after the other

@@ -1,6 +1,6 @@
 -- The first cells of variables, and derived variables that are selected by calls.
 use Rattle.std.specs.Prelude.{◌<◌, ℕ, List, length, map}
-use Rattle.dx_ports.specs.Members.{Each}
+use Rattle.dx_base.specs.Members.{Each}
 use Rattle.dx_model.specs.declared.rules.Derived.{Derived}
 use Rattle.dx_model.specs.declared.rules.Rule.{Rule}
 use Rattle.dx_model.specs.Covers.{below}

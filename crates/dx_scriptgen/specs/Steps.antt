@@ -1,6 +1,6 @@
 -- The steps of one kind, of all rules, and what they ask of the rules.
 use Rattle.std.specs.Prelude.{ℕ, List, [], Bool, false, flat_map, length, slice_index_or}
-use Rattle.dx_ports.specs.Members.{Each}
+use Rattle.dx_base.specs.Members.{Each}
 use Rattle.dx_model.specs.declared.rules.Rule.{Rule}
 use Rattle.dx_model.specs.Tables.{Table}
 use Rattle.dx_model.specs.Solutions.{AtomFits}

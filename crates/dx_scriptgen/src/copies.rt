@@ -1,9 +1,9 @@
 // Copies of parts of scripts.
 ghost use Rattle.std.specs.Prelude.{◌≡◌, ◌<◌, IfOk, length, map, slice_index_or};
-ghost use Rattle.dx_ports.specs.Members.{Each};
+ghost use Rattle.dx_base.specs.Members.{Each};
 ghost use Rattle.dx_script.specs.declared.form.CellRef.{CellRef as CellValue};
 
-use dx_ports::{Items, Text};
+use dx_base::{Items, Text};
 use dx_script::CellRef;
 use std::alloc::{AllocError, Global};
 

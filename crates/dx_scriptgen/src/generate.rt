@@ -1,6 +1,6 @@
 // The scripts of rules.
 ghost use Rattle.std.specs.Prelude.{◌≡◌, ◌↔◌, ◌<◌, ◌-◌, ◌^◌, ◌++◌, [], IfOk, OnOk, List, length, map};
-ghost use Rattle.dx_ports.specs.Members.{◌⊆◌, Each};
+ghost use Rattle.dx_base.specs.Members.{◌⊆◌, Each};
 ghost use Rattle.dx_model.specs.declared.facts.Fact.{Fact};
 ghost use Rattle.dx_model.specs.Values.{Rows};
 ghost use Rattle.dx_model.specs.Tables.{IsInstance};
@@ -22,10 +22,10 @@ use crate::copies::copy_texts;
 use crate::inserts::push_inserts;
 use crate::keeps::all_parts;
 use crate::matches::match_step;
+use dx_base::{Items, Text};
 use dx_cover::exported;
 use dx_funcs::{Host, Meaning};
 use dx_model::Rule;
-use dx_ports::{Items, Text};
 use dx_schema::Schema;
 use dx_script::{Script, Step, Unless};
 use std::alloc::{AllocError, Global};

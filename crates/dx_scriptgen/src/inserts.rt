@@ -1,15 +1,15 @@
 // The insert steps of rules.
 ghost use Rattle.std.specs.Prelude.{◌≡◌, ◌<◌, ◌++◌, IfOk, OnOk, eqb, length, map};
 ghost use Rattle.std.specs.List.{position_or_len};
-ghost use Rattle.dx_ports.specs.Members.{Each};
+ghost use Rattle.dx_base.specs.Members.{Each};
 ghost use Rattle.dx_model.specs.declared.rules.Rule.{Rule as RuleValue};
 ghost use Rattle.dx_model.specs.Rules.{exported as exported_of};
 ghost use Rattle.dx_schema.specs.Tables.{tables_of};
 ghost use Rattle.dx_schema.specs.Names.{table_names_of};
 ghost use Rattle.dx_script.specs.Generated.{inserts_of, out_of as out_for};
 
+use dx_base::Items;
 use dx_model::{Atom, Cell, Rule};
-use dx_ports::Items;
 use dx_schema::Schema;
 use dx_script::{Out, Step};
 use std::alloc::{AllocError, Global};

@@ -1,15 +1,15 @@
 // The parts of keep steps: what a rule leaves to the rules before it.
 ghost use Rattle.std.specs.Prelude.{◌≡◌, ◌<◌, ◌++◌, IfOk, OnOk, length, map};
-ghost use Rattle.dx_ports.specs.Members.{Each};
+ghost use Rattle.dx_base.specs.Members.{Each};
 ghost use Rattle.dx_model.specs.Covers.{IsNoExistential, below, rule_at, used_maps};
 ghost use Rattle.dx_model.specs.Fitting.{AgreeInWidths, IsRule, conclusions_of};
 ghost use Rattle.dx_script.specs.Rewritten.{unless_of, unless_parts};
 ghost use Rattle.dx_scriptgen.specs.Parts.{AreCoveringRules, test_for, tests_for};
 
 use crate::inserts::position;
+use dx_base::Items;
 use dx_cover::{CellMap, Covers, exported};
 use dx_model::{Cell, Rule};
-use dx_ports::Items;
 use dx_script::{Test, Unless};
 use std::alloc::{AllocError, Global};
 

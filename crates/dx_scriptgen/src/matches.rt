@@ -1,6 +1,6 @@
 // The match steps of rules.
 ghost use Rattle.std.specs.Prelude.{◌≡◌, ◌<◌, ◌+◌, IfOk, List, length, map};
-ghost use Rattle.dx_ports.specs.Members.{Each};
+ghost use Rattle.dx_base.specs.Members.{Each};
 ghost use Rattle.dx_model.specs.Rules.{exported as exported_of};
 ghost use Rattle.dx_model.specs.Fitting.{IsRule, premise_variables};
 ghost use Rattle.dx_model.specs.declared.rules.Atom.{Atom as AtomValue};
@@ -15,10 +15,10 @@ ghost use Rattle.dx_scriptgen.specs.Steps.{HasMatchStep};
 
 use crate::copies::{cells_at, copy_cell};
 use crate::premise::Premise;
+use dx_base::{Items, Text};
 use dx_cover::exported;
 use dx_funcs::{Host, Meaning};
 use dx_model::{Atom, Rule};
-use dx_ports::{Items, Text};
 use dx_schema::Schema;
 use dx_script::{CellRef, Select, Step};
 use std::alloc::{AllocError, Global};

@@ -1,6 +1,6 @@
 // The cells of a premise: the first one of each variable, and those that are equal to it.
 ghost use Rattle.std.specs.Prelude.{◌≡◌, ◌<◌, ◌≤◌, [], IfOk, OnOk, length};
-ghost use Rattle.dx_ports.specs.Members.{Each};
+ghost use Rattle.dx_base.specs.Members.{Each};
 ghost use Rattle.dx_model.specs.Rules.{cells_of};
 ghost use Rattle.dx_schema.specs.Tables.{schema_table, tables_of};
 ghost use Rattle.dx_schema.specs.Names.{table_names_of};
@@ -8,8 +8,8 @@ ghost use Rattle.dx_script.specs.Generated.{spots};
 ghost use Rattle.dx_scriptgen.specs.Premises.{met as met_of, met_atom, met_spots};
 
 use crate::copies::copy_cell;
+use dx_base::Items;
 use dx_model::{Atom, Cell};
-use dx_ports::Items;
 use dx_schema::Schema;
 use dx_script::{CellRef, Equal};
 use std::alloc::{AllocError, Global};

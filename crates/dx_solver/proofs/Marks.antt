@@ -4,7 +4,7 @@ use Rattle.std.proofs.Common.{length, get_or, take, Vec, Global}
 use Rattle.std.specs.Prelude.{map, replicate}
 use Rattle.std.proofs.Math.ListN.{set, length-set}
 use Rattle.std.proofs.lemmas.List.{length-map, map-append, map-set, take_more, get_or-map}
-use Rattle.dx_ports.proofs.Lists.{none_in}
+use Rattle.dx_base.proofs.Lists.{none_in}
 use Rattle.dx_instance.specs.Cells.{NumberTable}
 use Rattle.dx_instance.specs.Shown.{numbers_of_table}
 use Rattle.dx_solver.specs.Marks.{is_out, none_out, with_mark}

@@ -5,8 +5,8 @@ use Rattle.std.specs.Prelude.{Option, Some, None, MatchOption, IfOk}
 use Rattle.std.proofs.Math.Nat.{one-le-pow}
 use Rattle.std.proofs.lemmas.List.{append-nil}
 use Rattle.std.proofs.lemmas.List.Sums.{sum_by_push, sum_by-append}
-use Rattle.dx_ports.specs.Members.{◌∈◌, Each, here, there}
-use Rattle.dx_ports.proofs.Members.{in_left, in_right, from_append}
+use Rattle.dx_base.specs.Members.{◌∈◌, Each, here, there}
+use Rattle.dx_base.proofs.Members.{in_left, in_right, from_append}
 use Rattle.dx_solver.specs.declared.domain.Domain.{Domain}
 use Rattle.dx_solver.specs.declared.node.Node.{Node}
 use Rattle.dx_solver.specs.Domains.{IsBranched, Keeps, weight, worth}

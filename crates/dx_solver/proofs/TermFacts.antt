@@ -4,8 +4,8 @@ use Rattle.std.proofs.Common.{length, get_or}
 use Rattle.std.specs.Prelude.{map, Option, Some, None}
 use Rattle.std.proofs.lemmas.Bool.{cases_lt}
 use Rattle.std.proofs.lemmas.List.{get_or_default, get_or_past}
-use Rattle.dx_ports.specs.Members.{◌∈◌, Each, here, there}
-use Rattle.dx_ports.proofs.Members.{in_at, in_map, item_in}
+use Rattle.dx_base.specs.Members.{◌∈◌, Each, here, there}
+use Rattle.dx_base.proofs.Members.{in_at, in_map, item_in}
 use Rattle.dx_instance.specs.Cells.{NumberTable, numbers_at}
 use Rattle.dx_instance.specs.Indexes.{number_in}
 use Rattle.dx_instance.specs.Shown.{numbers_of_table}

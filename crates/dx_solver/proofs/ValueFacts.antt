@@ -13,8 +13,8 @@ use Rattle.std.proofs.lemmas.List.Filters.{dedup_is}
 use Rattle.std.proofs.lemmas.List.Kept.{Contains-dedup_nat}
 use Rattle.std.proofs.lemmas.List.Sorted.{Contains-permutation, searched}
 use Rattle.std.proofs.lemmas.Map.Keys.{IsStrictlyIncreasing-dedup}
-use Rattle.dx_ports.specs.Members.{◌∈◌, ◌⊆◌, here, there}
-use Rattle.dx_ports.proofs.Members.{contains_from_in, in_from_contains}
+use Rattle.dx_base.specs.Members.{◌∈◌, ◌⊆◌, here, there}
+use Rattle.dx_base.proofs.Members.{contains_from_in, in_from_contains}
 
 pub far : (xs : List ℕ) → IsStrictlyIncreasing xs → (i j : ℕ) → i ≤ j → j < length xs → get_or xs i 0 ≤ get_or xs j 0
 far xs up i zero h k = let e : i ≡ 0 = omega arith in rw e (omega arith)

@@ -1,7 +1,7 @@
 -- What each variable can still become.
 use Rattle.std.specs.Prelude.{◌≡◌, ℕ, ◌<◌, ◌^◌, ◌++◌, ◌≤◌, Option, None, Some, MatchOption, Bool, false, List, [], length, slice_index_or}
 use Rattle.std.specs.List.{sum_by}
-use Rattle.dx_ports.specs.Members.{Each, ◌∈◌}
+use Rattle.dx_base.specs.Members.{Each, ◌∈◌}
 use Rattle.dx_instance.specs.Cells.{NumberTable, numbers_at}
 use Rattle.dx_instance.specs.Indexes.{number_in}
 use Rattle.dx_instance.specs.Shown.{numbers_of_table}

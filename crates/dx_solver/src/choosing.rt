@@ -1,6 +1,6 @@
 // The variable that is tried next.
 ghost use Rattle.std.specs.Prelude.{◌≡◌, ◌<◌, ◌≤◌, ◌^◌, IfOk, MatchOption, length, slice_index_or};
-ghost use Rattle.dx_ports.specs.Members.{Each};
+ghost use Rattle.dx_base.specs.Members.{Each};
 ghost use Rattle.dx_solver.specs.Domains.{IsBound, IsBranched, IsFreeTerm, choice_count, domain_size, term_at};
 ghost use Rattle.dx_solver.specs.Questions.{FitsAtom, HasImageRow};
 ghost use Rattle.dx_solver.specs.declared.domain.Domain.TheVariants.{Any};

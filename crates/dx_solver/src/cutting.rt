@@ -1,6 +1,6 @@
 // Cutting what variables can still become by the rows that an atom can be.
 ghost use Rattle.std.specs.Prelude.{◌≡◌, ◌<◌, ◌≤◌, ◌^◌, ℕ, IfOk, length, true, slice_index_or};
-ghost use Rattle.dx_ports.specs.Members.{◌∈◌, Each};
+ghost use Rattle.dx_base.specs.Members.{◌∈◌, Each};
 ghost use Rattle.dx_instance.specs.Shown.{numbers_of_table};
 ghost use Rattle.dx_solver.specs.Domains.{DomainHas, IsBranched, IsImageRow, Keeps, domain_size, weight};
 ghost use Rattle.dx_solver.specs.Questions.{FitsAtom, HasImageRow};

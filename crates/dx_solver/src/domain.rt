@@ -1,6 +1,6 @@
 // What a variable can still become.
 ghost use Rattle.std.specs.Prelude.{◌≡◌, ◌≤◌, ◌^◌, ℕ, IfOk, length, true};
-ghost use Rattle.dx_ports.specs.Members.{◌∈◌};
+ghost use Rattle.dx_base.specs.Members.{◌∈◌};
 ghost use Rattle.dx_solver.specs.Domains.{DomainHas, domain_size};
 
 use crate::values::Values;

@@ -1,6 +1,6 @@
 // A search of all of a question with few atoms.
 ghost use Rattle.std.specs.Prelude.{◌≡◌, ◌<◌, ℕ, IfOk, length, map, slice_index};
-ghost use Rattle.dx_ports.specs.Members.{Each};
+ghost use Rattle.dx_base.specs.Members.{Each};
 ghost use Rattle.dx_solver.specs.Domains.{Keeps, term_at};
 ghost use Rattle.dx_solver.specs.Finding.{FindsNumbers};
 ghost use Rattle.dx_solver.specs.Questions.{FitsAtom, Solves, number_under};

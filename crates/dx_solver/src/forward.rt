@@ -1,6 +1,6 @@
 // A plain search with few steps: small and easy questions end here.
 ghost use Rattle.std.specs.Prelude.{◌≡◌, IfOk, length};
-ghost use Rattle.dx_ports.specs.Members.{Each};
+ghost use Rattle.dx_base.specs.Members.{Each};
 ghost use Rattle.dx_solver.specs.Questions.{FitsAtom};
 
 use crate::atom::{PatternAtom, Term};

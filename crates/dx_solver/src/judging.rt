@@ -1,6 +1,6 @@
 // Whether numbers for the variables are an answer.
 ghost use Rattle.std.specs.Prelude.{◌≡◌, ◌↔◌, ◌<◌, ℕ, IfOk, IfSome, IsTrue, MatchOption, None, length, map, slice_index_or};
-ghost use Rattle.dx_ports.specs.Members.{Each};
+ghost use Rattle.dx_base.specs.Members.{Each};
 ghost use Rattle.dx_instance.specs.Shown.{numbers_of_table};
 ghost use Rattle.dx_solver.specs.Domains.{IsBound, IsImageRow, IsLeftNumber, Keeps, term_at};
 ghost use Rattle.dx_solver.specs.Questions.{FitsAtom, Solves, HasImageRow, answered, number_under};

@@ -1,6 +1,6 @@
 // Nodes of a search.
 ghost use Rattle.std.specs.Prelude.{◌≡◌, ◌<◌, ◌^◌, ◌⊎◌, ℕ, IfOk, length, slice_index_or};
-ghost use Rattle.dx_ports.specs.Members.{◌∈◌};
+ghost use Rattle.dx_base.specs.Members.{◌∈◌};
 ghost use Rattle.dx_solver.specs.Domains.{DomainHas, IsBranched, Keeps, domain_size, weight};
 ghost use Rattle.dx_solver.specs.declared.domain.Domain.TheVariants.{Any, One, Many};
 

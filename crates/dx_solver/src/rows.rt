@@ -1,7 +1,7 @@
 // Rows that an atom can be.
 ghost use Rattle.std.specs.Prelude.{◌≡◌, ◌<◌, ◌≤◌, ◌^◌, ℕ, IfOk, IfSome, false, true, length, map, slice_index};
 ghost use Rattle.std.specs.Bool.{OnTrue};
-ghost use Rattle.dx_ports.specs.Members.{◌∈◌, Each};
+ghost use Rattle.dx_base.specs.Members.{◌∈◌, Each};
 ghost use Rattle.dx_instance.specs.Indexes.{number_in};
 ghost use Rattle.dx_instance.specs.Shown.{numbers_of_table};
 ghost use Rattle.dx_solver.specs.Domains.{IsImageRow, IsNextImage, IsNextPlace, Keeps, term_at};

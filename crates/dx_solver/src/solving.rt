@@ -1,7 +1,7 @@
 // Numbers for variables.
 ghost use Rattle.std.specs.Prelude.{◌≡◌, ℕ, IfOk, IfSome, MatchOption, None, Some, length, slice_index_or};
 ghost use Rattle.std.specs.Bool.{OnTrue};
-ghost use Rattle.dx_ports.specs.Members.{Each};
+ghost use Rattle.dx_base.specs.Members.{Each};
 ghost use Rattle.dx_solver.specs.Domains.{DomainHas, IsBranched, Keeps};
 ghost use Rattle.dx_solver.specs.Questions.{FitsAtom, Solves, HasImageRow, answered};
 

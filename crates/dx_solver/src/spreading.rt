@@ -1,6 +1,6 @@
 // Cutting until nothing changes.
 ghost use Rattle.std.specs.Prelude.{◌≡◌, ◌≤◌, ◌^◌, ℕ, IfOk, length, true};
-ghost use Rattle.dx_ports.specs.Members.{Each};
+ghost use Rattle.dx_base.specs.Members.{Each};
 ghost use Rattle.dx_solver.specs.Domains.{Keeps, weight};
 ghost use Rattle.dx_solver.specs.Questions.{FitsAtom, HasImageRow};
 

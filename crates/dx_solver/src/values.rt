@@ -1,6 +1,6 @@
 // Lists of numbers that ascend.
 ghost use Rattle.std.specs.Prelude.{◌≡◌, ◌≤◌, IfOk, length, true, ℕ};
-ghost use Rattle.dx_ports.specs.Members.{◌∈◌, ◌⊆◌};
+ghost use Rattle.dx_base.specs.Members.{◌∈◌, ◌⊆◌};
 
 use std::alloc::{AllocError, Global};
 use std::marker::Model;

@@ -4,7 +4,7 @@ use Rattle.std.proofs.lemmas.Bool.{cases_lt}
 use Rattle.std.proofs.lemmas.Option.{same_Some}
 use Rattle.dx_stages.specs.Worlds.{World}
 use Rattle.dx_stages.specs.Stages.{Stage, next, stay, each, by, over, into, saying, saying_if, file, computing, testing, notions, checking, become}
-use Rattle.dx_ports.specs.Members.{◌∈◌, here, there}
+use Rattle.dx_base.specs.Members.{◌∈◌, here, there}
 use Rattle.dx_stages.specs.Laws.{PassesOne, IsDecided, Leads, HasWords, AsksOtherFiles, AsksOnly}
 
 -- every value is given

@@ -2,13 +2,13 @@
 use Rattle.std.proofs.Common.{◌≡◌, ℕ, ◌+◌, List, [], ◌∷◌, ◌++◌, length, refl, sym, ap, inl, inr, arith, Option, Some, None, Result, Ok, Err, Bool, true, false}
 use Rattle.std.proofs.lemmas.Option.{none-some, same_Some}
 use Rattle.std.specs.FinMap.{get}
-use Rattle.dx_ports.specs.Entries.{Entry, FileMap}
+use Rattle.dx_base.specs.Entries.{Entry, FileMap}
 use Rattle.dx_ports.specs.Faults.{Rose}
-use Rattle.dx_ports.specs.States.{InputState, OutputState}
+use Rattle.dx_ports.specs.States.{Found, InputState, OutputState}
 use Rattle.dx_stages.specs.declared.stop.Stop.TheVariants as stops
 use Rattle.dx_stages.specs.declared.plan.Ended.{Ended}
 use Rattle.dx_stages.specs.declared.plan.Ended.TheVariants as endeds
-use Rattle.dx_stages.specs.Worlds.{World, IsOf, Found, HoldsFound, IsOnce}
+use Rattle.dx_stages.specs.Worlds.{World, AnsweredIn, IsOf, HoldsFound, IsOnce}
 use Rattle.dx_stages.specs.Stages.{Stage, next, each, file, computing, saying_if}
 use Rattle.dx_stages.specs.Running.{Meets, FailedAt}
 use Rattle.dx_stages.specs.Ending.{PlanContent, WroteAll, WroteFirst, Ends, Counts, IsOutside, IsRefusedAs}
@@ -75,6 +75,32 @@ its_name_is_asked = refl
 -- a fault is one of a file that was asked for
 no_fault_of_another : ¬ (Meets one_byte (all_are None) tt (Err (stops.Failed [])))
 no_fault_of_another h = let e : [] ≡ (1 ∷ []) = h in absurd (cc e)
+
+-- ---- what was answered
+
+abbrev one_file : Found
+one_file = record { name = 1 ∷ []; bytes = Some (5 ∷ []) }
+
+-- what a read answered is so in the world, also where the inputs tell nothing
+answer_is_so : AnsweredIn (all_are (Some (5 ∷ []))) [] (one_file ∷ [])
+answer_is_so = (one_file ∷ [], refl, (refl, tt))
+
+abbrev byte_of : Option (List ℕ) → ℕ
+byte_of None = 0
+byte_of (Some []) = 0
+byte_of (Some (b ∷ bs)) = b
+
+abbrev first_byte : List Found → ℕ
+first_byte [] = 0
+first_byte (f ∷ fs) = byte_of f.bytes
+
+no_other_bytes : ¬ (AnsweredIn (all_are (Some (6 ∷ []))) [] (one_file ∷ []))
+no_other_bytes ([], is, so) = let e : 5 ≡ 0 = ap first_byte is in omega (arith, e)
+no_other_bytes (f ∷ fs, is, so) = let e : 5 ≡ byte_of f.bytes = ap first_byte is in let k : 6 ≡ byte_of f.bytes = ap byte_of so.0 in omega (arith, e, k)
+
+-- what was answered before says nothing of this world
+before_is_before : AnsweredIn (all_are (Some (6 ∷ []))) (one_file ∷ []) (one_file ∷ [])
+before_is_before = ([], refl, tt)
 
 -- ---- stages in a row
 
@@ -149,7 +175,7 @@ none_more_did_not : ¬ (Rose 4 4)
 none_more_did_not h = omega (arith, h)
 
 abbrev told : ℕ → Option (List ℕ) → InputState
-told faults stopped = record { holds = None; faults = faults; stopped = stopped }
+told faults stopped = record { holds = None; answered = []; faults = faults; stopped = stopped }
 
 memory_is_no_fault : ¬ (FailedAt {E = ℕ} {B = ℕ} (told 0 None) (told 1 None) (Err stops.Memory))
 memory_is_no_fault h = let e : 1 ≡ 0 = h in omega (arith, e)

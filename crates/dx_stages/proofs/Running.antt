@@ -1,7 +1,7 @@
 -- What is computed of stages in a row, from what is computed of each.
 use Rattle.std.proofs.Common.{◌≡◌, ◌⊎◌, ℕ, List, [], ◌∷◌, ◌++◌, refl, sym, ◌∙◌, subst, inl, inr, arith, Option, Some, Result, Ok, Err}
 use Rattle.std.specs.Result.{IsErrAnd}
-use Rattle.dx_ports.specs.Entries.{FileMap}
+use Rattle.dx_base.specs.Entries.{FileMap}
 use Rattle.dx_ports.specs.Faults.{Rose}
 use Rattle.dx_ports.specs.States.{InputState}
 use Rattle.dx_stages.specs.declared.stop.Stop.{Stop}
@@ -10,7 +10,7 @@ use Rattle.dx_stages.specs.Worlds.{World, Agrees, HoldsFound, WasAsked}
 use Rattle.dx_stages.specs.Stages.{Stage, next, stay, each, by, over, into, file, saying, saying_if, become}
 use Rattle.dx_stages.specs.Laws.{AsksOtherFiles}
 use Rattle.dx_stages.specs.Running.{Answers, Meets, Gives, FailedAt, Ran, with_refusal}
-use Rattle.dx_stages.proofs.Worlds.{agrees_both, told_both, has_either, once_both, a_world}
+use Rattle.dx_stages.proofs.Worlds.{agrees_both, answered_both, answered_none, told_both, has_either, once_both, a_world}
 
 -- ---- what follows of one stage
 
@@ -38,6 +38,7 @@ ran_within s t w a r old new x = record {
     asked = λ c g n h. w.asks c a n (x.finds.asked c g n h);
     meets = λ c g. meets_within s t w c a r (x.finds.meets c g);
   };
+  answered = x.answered;
 }
 
 gives_meets : {E A B : Type 0} (s : Stage E A B) (a : A) (r : Result B (Stop E)) → Gives s a r → (c : World) → Meets s c a r
@@ -59,6 +60,7 @@ ran_value s a r told g = record {
   counted = omega arith;
   failed = gives_no_fault s a r told g;
   finds = record { found = []; told = tt; once = tt; asked = λ c x n h. absurd h; meets = λ c x. gives_meets s a r g c };
+  answered = λ c x. answered_none c told.answered;
 }
 
 -- memory ran out
@@ -90,6 +92,7 @@ ran_stop {E} {A} {B} {C} s t a e old new x = record {
     asked = λ c g n h. inl (x.finds.asked c g n h);
     meets = λ c g. stops_next s t c a e (x.finds.meets c g);
   };
+  answered = x.answered;
 }
 
 meets_next : {E A B C : Type 0} (s : Stage E A B) (t : Stage E B C) (c : World) (a : A) (b : B) (r : Result C (Stop E)) → s.passes c a b → Meets t c b r → Meets (next s t) c a r
@@ -118,6 +121,9 @@ ran_next {E} {A} {B} {C} s t a b r old mid new apart x y = record {
     asked = asked;
     meets = λ c g. let h = agrees_both c x.finds.found y.finds.found g in meets_next s t c a b r (x.finds.meets c h.0) (y.finds.meets c h.1);
   };
+  answered = λ c g.
+      let h = agrees_both c x.finds.found y.finds.found g in
+      answered_both c old.answered mid.answered new.answered (x.answered c h.0) (y.answered c h.1);
 }
   where
     later : HoldsFound old.holds y.finds.found
@@ -204,6 +210,7 @@ ran_alike s t a a' r q old new asks meets fault x = record {
     asked = λ c g n h. asks c n (x.finds.asked c g n h);
     meets = λ c g. meets c (x.finds.meets c g);
   };
+  answered = x.answered;
 }
 
 pub ran_by : {E A B : Type 0} (f : A → Stage E A B) (a : A) (r : Result B (Stop E)) (old new : InputState) → Ran (f a) a r old new → Ran (by f) a r old new

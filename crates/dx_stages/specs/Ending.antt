@@ -1,6 +1,7 @@
 -- How a run ends, why, and what it leaves.
 use Rattle.std.specs.Prelude.{◌≡◌, ◌⊎◌, ◌<◌, ◌≤◌, ℕ, List, take, length, IfSome, Result, Ok, Err}
-use Rattle.dx_ports.specs.Entries.{Entry, entries_of, appended, GrewByPrefix}
+use Rattle.dx_base.specs.Entries.{Entry, entries_of}
+use Rattle.dx_ports.specs.Told.{appended, GrewByPrefix}
 use Rattle.dx_ports.specs.Faults.{Rose}
 use Rattle.dx_ports.specs.States.{InputState, OutputState}
 use Rattle.dx_stages.specs.declared.stop.Stop.{Stop}
@@ -10,7 +11,7 @@ use Rattle.dx_stages.specs.declared.writing.WriteStop.TheVariants as write_stops
 use Rattle.dx_stages.specs.declared.plan.Plan.{Plan}
 use Rattle.dx_stages.specs.declared.plan.Ended.{Ended}
 use Rattle.dx_stages.specs.declared.plan.Ended.TheVariants as endeds
-use Rattle.dx_stages.specs.Worlds.{World, IsOf}
+use Rattle.dx_stages.specs.Worlds.{World, AnsweredIn, IsOf}
 use Rattle.dx_stages.specs.Stages.{Stage}
 
 -- ---- what is planned, and what is written of it
@@ -81,11 +82,13 @@ IsOutside endeds.Memory = Unit {0}
 abbrev pub IsRefusedAs : {D R : Type 0} → (R → R → Type 0) → R → Ended D R → Type 0
 IsRefusedAs {D} {R} Alike r e = (k : R) × (e ≡ endeds.Refused k) × Alike k r
 
--- There is a world, which is what the inputs hold if they tell, in which the run ended so for its reason, and left what it
--- had to; if there is a reason to refuse there, no other ending comes but one of outside, and if there is a plan, no refusal.
+-- There is a world, in which all that the reads answered is so, and which is what the inputs hold if they tell. In it the run ended so
+-- for its reason, and left what it had to; if there is a reason to refuse there, no other ending comes but one of outside, and if there
+-- is a plan, no refusal.
 pub record Runs {A D R : Type 0} (Alike : R → R → Type 0) (s : Stage R A (PlanContent D)) (a : A) (e : Ended D R) (old new : InputState) (before after : OutputState) (writes writes' : ℕ) : Type 0 where
   pub world : World
   pub held : IsOf old.holds world
+  pub answered : AnsweredIn world old.answered new.answered
   pub ends : Ends s world a before after e
   pub exact : (r : R) → s.refuses world a r → IsRefusedAs Alike r e ⊎ IsOutside e
   pub complete : (p : PlanContent D) → s.passes world a p → (r : R) → ¬ (e ≡ endeds.Refused r)

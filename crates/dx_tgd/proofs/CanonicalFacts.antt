@@ -6,11 +6,11 @@ use Rattle.dx_model.specs.declared.values.NullId.{NullId}
 use Rattle.dx_model.specs.declared.values.Value.TheVariants.{Null}
 use Rattle.dx_model.specs.declared.rules.Cell.{Cell}
 use Rattle.dx_model.specs.declared.rules.Cell.TheVariants.{Var, Ex, Lit}
-use Rattle.dx_ports.proofs.Members.{from_append, from_map}
+use Rattle.dx_base.proofs.Members.{from_append, from_map}
 use Rattle.dx_model.specs.declared.facts.Fact.{Fact}
 use Rattle.dx_model.specs.declared.rules.Atom.{Atom}
 use Rattle.dx_model.specs.declared.rules.Rule.{Rule}
-use Rattle.dx_ports.specs.Members.{◌∈◌, here, there, Each}
+use Rattle.dx_base.specs.Members.{◌∈◌, here, there, Each}
 use Rattle.dx_model.specs.Values.{Tuple, Rows}
 use Rattle.dx_model.specs.Rules.{fact_of_atom, text_of, exported, cell_value, at_place, at_places, canonical, cells_of}
 use Rattle.dx_tgd.specs.Counting.{canonical_cells}

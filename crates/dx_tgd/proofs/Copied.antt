@@ -4,7 +4,7 @@ use Rattle.std.specs.Prelude.{map}
 use Rattle.std.proofs.lemmas.List.{length-append, length-map, map-append, take_all, take_more}
 use Rattle.dx_model.specs.declared.values.Value.{Value}
 use Rattle.dx_model.specs.Values.{Tuple}
-use Rattle.dx_ports.specs.Texts.{Text}
+use Rattle.dx_base.specs.Texts.{Text}
 use Rattle.dx_model.specs.Tuples.{in_tuples}
 use Rattle.dx_model.proofs.TupleFacts.{tuples_push}
 use Rattle.dx_instance.specs.Cells.{NumberTable, numbers_at}

@@ -4,10 +4,10 @@ use Rattle.std.specs.Prelude.{Err, IfOk, MatchOption, None, Ok, Option, Result, 
 use Rattle.std.specs.List.{AllZip}
 use Rattle.std.proofs.lemmas.List.{append-nil, length-append, length-map, take_more}
 use Rattle.std.proofs.Math.Nat.{div-lt_iff_lt-mul, mul-le-mul, mul-le-mul_right}
-use Rattle.dx_ports.specs.Members.{◌∈◌, ◌⊆◌, here, there, Distinct, Each}
-use Rattle.dx_ports.proofs.Members.{from_map, in_map, no_longer}
+use Rattle.dx_base.specs.Members.{◌∈◌, ◌⊆◌, here, there, Distinct, Each}
+use Rattle.dx_base.proofs.Members.{from_map, in_map, no_longer}
 use Rattle.std.specs.declared.alloc.AllocError.{AllocError}
-use Rattle.dx_ports.proofs.Lists.{zip_push}
+use Rattle.dx_base.proofs.Lists.{zip_push}
 use Rattle.dx_model.specs.declared.facts.Fact.{Fact}
 use Rattle.dx_model.specs.declared.matches.Places.{Places}
 use Rattle.dx_model.specs.declared.rules.Atom.{Atom}

@@ -8,8 +8,8 @@ use Rattle.dx_model.specs.declared.facts.Fact.{Fact}
 use Rattle.dx_model.specs.declared.rules.Rule.{Rule}
 use Rattle.dx_model.specs.Values.{Rows, Tuple}
 use Rattle.dx_model.specs.Rules.{at_place, at_places, canonical}
-use Rattle.dx_ports.specs.Members.{◌∈◌, ◌⊆◌, here, there, Each}
-use Rattle.dx_ports.proofs.Members.{in_left, in_right, from_append}
+use Rattle.dx_base.specs.Members.{◌∈◌, ◌⊆◌, here, there, Each}
+use Rattle.dx_base.proofs.Members.{in_left, in_right, from_append}
 use Rattle.dx_model.proofs.Widths.{in_get}
 use Rattle.dx_instance.specs.Stored.{AddsRow, TableRows, facts, rows_of, widths, without_rows}
 use Rattle.dx_tgd.specs.Gained.{GainsFacts, HasRoomForRows}

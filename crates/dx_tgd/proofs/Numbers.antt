@@ -14,10 +14,10 @@ use Rattle.dx_model.specs.declared.rules.Cell.{Cell}
 use Rattle.dx_model.specs.declared.rules.Cell.TheVariants.{Var, Ex, Lit}
 use Rattle.dx_model.specs.declared.rules.Atom.{Atom}
 use Rattle.dx_model.specs.declared.rules.Rule.{Rule}
-use Rattle.dx_ports.specs.Members.{◌∈◌, here, there}
+use Rattle.dx_base.specs.Members.{◌∈◌, here, there}
 use Rattle.dx_model.specs.Rules.{Increase, cells_of, exported}
 use Rattle.dx_model.proofs.Canonical.{exported_exactly}
-use Rattle.dx_ports.proofs.Members.{contains_from_in, in_from_contains}
+use Rattle.dx_base.proofs.Members.{contains_from_in, in_from_contains}
 use Rattle.dx_instance.proofs.KeyFacts.{from_less}
 use Rattle.dx_tgd.specs.Variables.{variables_in}
 

@@ -2,8 +2,8 @@
 use Rattle.std.proofs.Common.{◌⊎◌, ◌∙◌, ◌<◌, ◌∷◌, ℕ, suc, List, [], inl, inr, sym, subst, arith}
 use Rattle.std.specs.Prelude.{flat_map}
 use Rattle.std.proofs.lemmas.Bool.{cases_eq}
-use Rattle.dx_ports.specs.Members.{◌∈◌, here, there}
-use Rattle.dx_ports.proofs.Members.{from_flat_map}
+use Rattle.dx_base.specs.Members.{◌∈◌, here, there}
+use Rattle.dx_base.proofs.Members.{from_flat_map}
 use Rattle.dx_model.specs.declared.rules.Cell.{Cell}
 use Rattle.dx_model.specs.declared.rules.Cell.TheVariants.{Var}
 use Rattle.dx_model.specs.declared.rules.Rule.{Rule}

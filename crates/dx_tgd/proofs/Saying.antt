@@ -6,8 +6,8 @@ use Rattle.std.proofs.lemmas.List.{take_more, map-append}
 use Rattle.dx_model.specs.declared.values.Value.{Value}
 use Rattle.dx_model.specs.declared.rules.Cell.{Cell}
 use Rattle.dx_model.specs.declared.rules.Cell.TheVariants.{Var}
-use Rattle.dx_ports.proofs.Members.{in_at}
-use Rattle.dx_ports.specs.Members.{◌∈◌}
+use Rattle.dx_base.proofs.Members.{in_at}
+use Rattle.dx_base.specs.Members.{◌∈◌}
 use Rattle.dx_model.specs.Rules.{text_of}
 
 pub skip_same : (vars : List ℕ) (tuple : List (List ℕ)) (i x : ℕ) → i < length vars → length tuple ≡ length vars → ¬ (get_or vars i 0 ≡ x)

@@ -11,9 +11,9 @@ use Rattle.std.proofs.lemmas.List.Sorted.{Contains-permutation}
 use Rattle.std.proofs.lemmas.Cmp.{lists_total, nat_list_cmp_total, lists_equiv, nat_list_eq_equiv}
 use Rattle.std.proofs.lemmas.Slice.Eq.{bytes_eq-Decides, slice_eq-Decides}
 use Rattle.std.specs.Cmp.Lexicographic.{lists_ties, texts_ties}
-use Rattle.dx_ports.specs.Members.{◌∈◌, here, there}
+use Rattle.dx_base.specs.Members.{◌∈◌, here, there}
 use Rattle.dx_model.specs.Rules.{TuplesAscend}
-use Rattle.dx_ports.proofs.Members.{contains_from_in, in_from_contains}
+use Rattle.dx_base.proofs.Members.{contains_from_in, in_from_contains}
 
 each_below : (t : List (List ℕ)) (ts : List (List (List ℕ))) → AllByRecursion (λ u. slice_cmp (slice_cmp nat_cmp) t u ≡ Less) ts
     → (u : List (List ℕ)) → u ∈ ts → slice_cmp (slice_cmp nat_cmp) t u ≡ Less

@@ -4,9 +4,9 @@ use Rattle.std.specs.Prelude.{map, slice_get, IfOk}
 use Rattle.std.specs.List.{AllZip}
 use Rattle.std.specs.declared.alloc.AllocError.{AllocError}
 use Rattle.std.proofs.lemmas.List.{length-map, get_or-map, take_all}
-use Rattle.dx_ports.specs.Members.{◌≈◌, here, there, Each}
-use Rattle.dx_ports.proofs.Members.{in_at}
-use Rattle.dx_ports.proofs.Lists.{zip_long}
+use Rattle.dx_base.specs.Members.{◌≈◌, here, there, Each}
+use Rattle.dx_base.proofs.Members.{in_at}
+use Rattle.dx_base.proofs.Lists.{zip_long}
 use Rattle.dx_model.specs.declared.values.Value.{Value}
 use Rattle.dx_model.specs.declared.facts.Fact.{Fact}
 use Rattle.dx_model.specs.declared.rules.Atom.{Atom}

@@ -1,8 +1,8 @@
 -- Matches that are found: rows of numbers that stand for the exported tuples of rules.
 use Rattle.std.specs.Prelude.{◌≡◌, ◌↔◌, ◌<◌, ℕ, List, length, map}
 use Rattle.std.specs.List.{AllZip}
-use Rattle.dx_ports.specs.Members.{◌∈◌, Each}
-use Rattle.dx_ports.specs.declared.file.Count.TheVariants.{TargetCells}
+use Rattle.dx_base.specs.Members.{◌∈◌, Each}
+use Rattle.dx_base.specs.declared.file.Count.TheVariants.{TargetCells}
 use Rattle.dx_model.specs.declared.values.Value.{Value}
 use Rattle.dx_model.specs.declared.facts.Fact.{Fact}
 use Rattle.dx_model.specs.declared.rules.Rule.{Rule}

@@ -1,6 +1,6 @@
 -- What an instance gains.
 use Rattle.std.specs.Prelude.{◌≡◌, ◌≤◌, ◌+◌, ◌-◌, ◌^◌, ◌⊎◌, ℕ, List, length}
-use Rattle.dx_ports.specs.Members.{◌∈◌, ◌⊆◌, Each}
+use Rattle.dx_base.specs.Members.{◌∈◌, ◌⊆◌, Each}
 use Rattle.dx_model.specs.declared.facts.Fact.{Fact}
 use Rattle.dx_instance.specs.Stored.{TableRows, facts, rows_of, widths}
 

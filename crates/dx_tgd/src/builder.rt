@@ -1,7 +1,7 @@
 // Rows of numbers for each table, before they are put in order.
 ghost use Rattle.std.specs.Prelude.{◌≡◌, ◌↔◌, ◌<◌, ◌≤◌, ◌-◌, ◌^◌, [], ◌∷◌, IfOk, IsTrue, OnOk, length};
 ghost use Rattle.std.specs.List.{AllZip};
-ghost use Rattle.dx_ports.specs.Members.{Each};
+ghost use Rattle.dx_base.specs.Members.{Each};
 ghost use Rattle.dx_model.specs.Rules.{exported as exported_of};
 ghost use Rattle.dx_instance.specs.Numbers.{AreDistinctValues, Extends, value_of};
 ghost use Rattle.dx_instance.specs.Shown.{shown_row};
@@ -26,7 +26,7 @@ pub struct Builder {
 
 impl Model for Builder {
     ghost use Rattle.std.specs.Prelude.{length};
-    ghost use Rattle.dx_ports.specs.Members.{Each};
+    ghost use Rattle.dx_base.specs.Members.{Each};
     ghost use Rattle.dx_instance.specs.Shown.{NumberedInstance, NumberRowsFit};
 
     ghost Value = { NumberedInstance };

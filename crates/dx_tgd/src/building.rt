@@ -1,6 +1,6 @@
 // The canonical instance of rows of numbers.
 ghost use Rattle.std.specs.Prelude.{◌≡◌, ℕ, IfOk, OnOk, length, map};
-ghost use Rattle.dx_ports.specs.Members.{◌≈◌, Each};
+ghost use Rattle.dx_base.specs.Members.{◌≈◌, Each};
 ghost use Rattle.dx_model.specs.Values.{RowsAscend};
 ghost use Rattle.dx_model.specs.Rules.{at_places, canonical};
 ghost use Rattle.dx_instance.specs.Numbers.{Extends};

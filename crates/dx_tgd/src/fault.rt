@@ -2,7 +2,7 @@
 ghost use Rattle.std.specs.Prelude.{◌≡◌};
 ghost use Rattle.dx_tgd.specs.declared.fault.CanonFault.TheVariants.{Memory};
 
-use dx_ports::Limit;
+use dx_base::Limit;
 use std::alloc::{AllocError, AllocFailed};
 use thiserror::Error;
 

@@ -1,7 +1,7 @@
 // Rows of numbers, put in the order of their texts.
 ghost use Rattle.std.specs.Prelude.{IfOk, length};
 ghost use Rattle.std.specs.List.{AllZip};
-ghost use Rattle.dx_ports.specs.Members.{Each};
+ghost use Rattle.dx_base.specs.Members.{Each};
 ghost use Rattle.dx_instance.specs.Cells.{IsOrderOf, NumbersAscend};
 ghost use Rattle.dx_instance.specs.Numbers.{ValuesAscend};
 ghost use Rattle.dx_instance.specs.Shown.{AreBelow, renumbered};

@@ -12,11 +12,11 @@ ghost use Rattle.dx_tgd.specs.Found.{IsFoundRule, IsTuple};
 use crate::found::one_in_order;
 use crate::texts::places_of_rows;
 use crate::variables::exported;
+use dx_base::{Items, Text};
 use dx_funcs::{Host, Meaning};
 use dx_instance::{Instance, Numbers, Rows, Symbols};
 use dx_joins::shown_rows;
 use dx_model::{Places, Rule};
-use dx_ports::{Items, Text};
 use std::alloc::{AllocError, Global};
 
 /// Rows of numbers that stand for the exported tuples of all matches of a rule. The texts of derived variables go last in

@@ -1,7 +1,7 @@
 // The canonical instance, by the plain way: the matches of each rule, and what its conclusion says of them.
 ghost use Rattle.std.specs.Prelude.{◌≡◌, ◌<◌, ◌≤◌, ◌-◌, ◌^◌, ℕ, IfOk, IfErr};
-ghost use Rattle.dx_ports.specs.Members.{◌≈◌, Each};
-ghost use Rattle.dx_ports.specs.declared.file.Count.TheVariants.{TargetCells};
+ghost use Rattle.dx_base.specs.Members.{◌≈◌, Each};
+ghost use Rattle.dx_base.specs.declared.file.Count.TheVariants.{TargetCells};
 ghost use Rattle.dx_model.specs.Rules.{AreRows, canonical};
 ghost use Rattle.dx_model.specs.Values.{RowsAscend};
 ghost use Rattle.dx_schema.specs.Tables.{schema_widths};
@@ -23,10 +23,10 @@ use crate::found::Found;
 use crate::made::Made;
 use crate::matching::rule_rows;
 use crate::rule_matches::RuleMatches;
+use dx_base::{Count, Items, Limit, Text};
 use dx_funcs::{Host, Meaning};
 use dx_instance::{Instance, Numbers, Symbols, Value};
 use dx_model::{Cell, Rule};
-use dx_ports::{Count, Items, Limit, Text};
 use dx_schema::Schema;
 use std::alloc::{AllocError, Global};
 

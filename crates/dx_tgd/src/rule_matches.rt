@@ -1,6 +1,6 @@
 // The matches of rules, kept as rows of numbers.
 ghost use Rattle.std.specs.Prelude.{◌≡◌, ◌<◌, ◌^◌, [], IfOk, length, slice_index_or};
-ghost use Rattle.dx_ports.specs.Members.{Each};
+ghost use Rattle.dx_base.specs.Members.{Each};
 ghost use Rattle.dx_model.specs.Matches.{rows_of_matches};
 ghost use Rattle.dx_joins.specs.Shown.{AreTexts};
 ghost use Rattle.dx_tgd.specs.Texts.{tuples_in};
@@ -22,7 +22,7 @@ pub struct RuleMatches {
 
 impl Model for RuleMatches {
     ghost use Rattle.std.specs.Prelude.{◌<◌, ◌^◌, length};
-    ghost use Rattle.dx_ports.specs.Members.{Each};
+    ghost use Rattle.dx_base.specs.Members.{Each};
     ghost use Rattle.dx_model.specs.Values.{Rows};
     ghost use Rattle.dx_joins.specs.Shown.{AreTexts};
     ghost use Rattle.dx_tgd.specs.Texts.{tuples_in};

@@ -1,6 +1,6 @@
 // The texts for which rows of numbers stand.
 ghost use Rattle.std.specs.Prelude.{◌≡◌, ◌++◌, IfOk, OnOk, map};
-ghost use Rattle.dx_ports.specs.Members.{Each};
+ghost use Rattle.dx_base.specs.Members.{Each};
 ghost use Rattle.dx_model.specs.Rules.{TuplesAscend};
 ghost use Rattle.dx_model.specs.Matches.{rows_of_matches};
 ghost use Rattle.dx_instance.specs.Cells.{NumbersAscend};
@@ -9,9 +9,9 @@ ghost use Rattle.dx_instance.specs.Ranks.{text_of_value};
 ghost use Rattle.dx_joins.specs.Shown.{AreTexts, texts_of};
 ghost use Rattle.dx_tgd.specs.Texts.{tuples_in};
 
+use dx_base::{Items, Text};
 use dx_instance::{Rows, Symbols, Value};
 use dx_model::{Matches, Places, Tuples};
-use dx_ports::{Items, Text};
 use std::alloc::{AllocError, Global};
 
 // A copy of the text of a value, and a text without bytes for a null.

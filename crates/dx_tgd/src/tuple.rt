@@ -2,8 +2,8 @@
 ghost use Rattle.std.specs.Prelude.{◌≡◌, ◌<◌, [], length, slice_index_or};
 ghost use Rattle.dx_joins.specs.Shown.{AreTexts, texts_of};
 
+use dx_base::Text;
 use dx_instance::{Symbols, Value};
-use dx_ports::Text;
 use std::marker::Model;
 
 /// The exported tuple of a match, lent as a row of numbers. A contract sees the list of its texts.

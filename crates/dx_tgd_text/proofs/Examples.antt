@@ -1,9 +1,9 @@
 -- A rule from employees to persons: read by numbers, and refused at the first word that is at fault.
 use Rattle.std.proofs.Common.{◌≡◌, ℕ, List, [], ◌∷◌, Option, Some, None, codes, refl, ap, ◌∙◌, arith}
-use Rattle.dx_ports.specs.Members.{◌∈◌, here, there}
+use Rattle.dx_base.specs.Members.{◌∈◌, here, there}
 use Rattle.dx_model.specs.declared.rules.Cell.TheVariants.{Var, Ex, Lit}
 use Rattle.dx_schema.specs.Forest.{Forest, none, set, bare_set}
-use Rattle.dx_ports.specs.Texts.{Text}
+use Rattle.dx_base.specs.Texts.{Text}
 use Rattle.dx_tokens.specs.declared.faults.TextFault.{TextFault}
 use Rattle.dx_tokens.specs.declared.faults.TextFault.TheVariants.{At}
 use Rattle.dx_tokens.specs.declared.faults.TextKind.TheVariants.{UnknownName, Width, Unsafe}

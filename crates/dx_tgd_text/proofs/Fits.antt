@@ -4,9 +4,9 @@ use Rattle.std.specs.Prelude.{eqb}
 use Rattle.std.proofs.lemmas.Bool.{eqb-true}
 use Rattle.std.proofs.lemmas.Bool.Decides.{nat_tests}
 use Rattle.std.proofs.lemmas.List.{get_or-map, length-append, length-map}
-use Rattle.dx_ports.specs.Members.{◌∈◌, here, there, Each}
-use Rattle.dx_ports.proofs.Members.{from_map, in_flat_map}
-use Rattle.dx_ports.proofs.Firsts.{first_none, none_of, each_none}
+use Rattle.dx_base.specs.Members.{◌∈◌, here, there, Each}
+use Rattle.dx_base.proofs.Members.{from_map, in_flat_map}
+use Rattle.dx_base.proofs.Firsts.{first_none, none_of, each_none}
 use Rattle.dx_model.specs.declared.rules.Cell.TheVariants.{Var, Ex}
 use Rattle.dx_model.specs.declared.rules.Atom.{Atom}
 use Rattle.dx_model.specs.declared.rules.Rule.{Rule}
@@ -16,7 +16,7 @@ use Rattle.dx_model.specs.Solutions.{AtomFits}
 use Rattle.dx_model.specs.Fitting.{ByFirstAppearance, IsVariable, cell_variable, premise_variables, RuleFits}
 use Rattle.dx_schema.specs.Forest.{Forest}
 use Rattle.dx_schema.specs.Tables.{TableOf, tables_of, as_numbers, model_tables, number_of_name, no_table}
-use Rattle.dx_ports.specs.Texts.{Text}
+use Rattle.dx_base.specs.Texts.{Text}
 use Rattle.dx_schema.specs.Faults.{is_among}
 use Rattle.dx_schema.proofs.Loops.{among_number}
 use Rattle.dx_tokens.specs.declared.faults.TextFault.TheVariants.{At}

@@ -1,12 +1,12 @@
 -- From the parts of a rule to the rule, and from rules so far to all of them.
 use Rattle.std.proofs.Common.{◌≡◌, ◌⊎◌, inl, inr, ℕ, ◌+◌, ◌<◌, List, [], ◌∷◌, ◌++◌, Option, Some, None, length, map, take, drop, get_or, refl, sym, ap, ◌∙◌, subst}
 use Rattle.std.proofs.lemmas.List.{map-append}
-use Rattle.dx_ports.specs.Firsts.{first_of}
-use Rattle.dx_ports.proofs.Lists.{cut_at}
+use Rattle.dx_base.specs.Firsts.{first_of}
+use Rattle.dx_base.proofs.Lists.{cut_at}
 use Rattle.dx_model.specs.declared.rules.Atom.{Atom}
 use Rattle.dx_model.specs.declared.rules.Derived.{Derived}
 use Rattle.dx_schema.specs.Forest.{Forest}
-use Rattle.dx_ports.specs.Texts.{Text}
+use Rattle.dx_base.specs.Texts.{Text}
 use Rattle.dx_schema.proofs.Loops.{taken}
 use Rattle.dx_tokens.specs.declared.faults.TextFault.{TextFault}
 use Rattle.dx_tokens.specs.declared.faults.TextFault.TheVariants.{Memory}

@@ -1,6 +1,6 @@
 -- Names by their first appearance.
 use Rattle.std.specs.Prelude.{cond, List, [], ◌∷◌, ◌++◌, flat_map}
-use Rattle.dx_ports.specs.Texts.{Text}
+use Rattle.dx_base.specs.Texts.{Text}
 use Rattle.dx_schema.specs.Faults.{is_among}
 use Rattle.dx_schema_text.specs.declared.texts.CellText.{CellText}
 use Rattle.dx_schema_text.specs.declared.texts.CellText.TheVariants.{Name, Literal}

@@ -1,7 +1,7 @@
 -- What hand-written rules say: the first word that is at fault, and the rules by numbers.
 use Rattle.std.specs.Prelude.{ℕ, ◌+◌, ◌-◌, ◌^◌, ◌<◌, List, [], ◌∷◌, ◌++◌, Option, Some, None, cond, eqb, length, map}
-use Rattle.dx_ports.specs.Firsts.{first_of}
-use Rattle.dx_ports.specs.Texts.{Text}
+use Rattle.dx_base.specs.Firsts.{first_of}
+use Rattle.dx_base.specs.Texts.{Text}
 use Rattle.dx_model.specs.declared.rules.Cell.{Cell}
 use Rattle.dx_model.specs.declared.rules.Cell.TheVariants.{Var, Ex, Lit}
 use Rattle.dx_model.specs.declared.rules.Atom.{Atom}

@@ -5,8 +5,8 @@ ghost use Rattle.dx_line_text.specs.Naming.{set_number};
 ghost use Rattle.dx_tgd_text.specs.Reading.{atom_fault, atom_of_text, atoms_fault, atoms_of_texts, cell_of};
 
 use crate::names::Names;
+use dx_base::Items;
 use dx_model::{Atom, Cell};
-use dx_ports::Items;
 use dx_schema::Schema;
 use dx_schema_text::{AtomText, CellText};
 use dx_tokens::{TextFault, TextKind};

@@ -6,9 +6,9 @@ ghost use Rattle.dx_line_text.specs.Answers.{AnswersOrFault, ReadsOrMemory};
 ghost use Rattle.dx_tgd_text.specs.Reading.{arg_fault, arg_of, args_fault, conversion_fault, derived_fault, derived_faults, derived_names, derived_of_text};
 
 use crate::names::Names;
+use dx_base::{Items, Text};
 use dx_funcs::{Host, Meaning};
 use dx_model::Derived;
-use dx_ports::{Items, Text};
 use dx_schema_text::{CellText, DerivedText};
 use dx_tokens::{TextFault, TextKind};
 use std::alloc::{AllocError, Global};

@@ -4,7 +4,7 @@ ghost use Rattle.dx_schema.specs.Faults.{is_among};
 ghost use Rattle.dx_schema.specs.Tables.{number_of_name};
 ghost use Rattle.dx_tgd_text.specs.Numbering.{appeared, unknown_names, new_names, text_cells, with_name};
 
-use dx_ports::Text;
+use dx_base::Text;
 use dx_schema_text::{AtomText, CellText};
 use indexmap::IndexSet;
 use std::alloc::{AllocError, Global};

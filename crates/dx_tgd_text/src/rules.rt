@@ -1,6 +1,6 @@
 // Rules, by the numbers of what they name.
 ghost use Rattle.std.specs.Prelude.{◌≡◌, ◌⊎◌, None, Some, IfErr, IfOk, OnOk};
-ghost use Rattle.dx_ports.specs.Members.{Each};
+ghost use Rattle.dx_base.specs.Members.{Each};
 ghost use Rattle.dx_model.specs.Fitting.{RuleFits};
 ghost use Rattle.dx_schema.specs.Tables.{model_tables};
 ghost use Rattle.dx_funcs.specs.Serving.{offered};
@@ -12,9 +12,9 @@ ghost use Rattle.dx_tgd_text.specs.Reading.{RuleHasFewCells, rule_fault, rule_of
 use crate::atoms::read_atoms;
 use crate::derived::read_derived;
 use crate::names::Names;
+use dx_base::{Items, Text};
 use dx_funcs::{Host, Meaning};
 use dx_model::Rule;
-use dx_ports::{Items, Text};
 use dx_schema::Schema;
 use dx_schema_text::RuleText;
 use dx_tokens::TextFault;

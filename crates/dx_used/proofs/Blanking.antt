@@ -2,8 +2,8 @@
 use Rattle.std.proofs.Common.{◌≡◌, ℕ, zero, suc, ◌<◌, List, [], ◌∷◌, ◌++◌, Bool, true, false, refl, sym, ◌∙◌, ap, arith, length, get_or, take}
 use Rattle.std.specs.Prelude.{cond}
 use Rattle.std.proofs.lemmas.List.{map-append}
-use Rattle.dx_ports.specs.Members.{◌≈◌}
-use Rattle.dx_ports.proofs.Members.{same_append, same_equal, same_map, same_trans}
+use Rattle.dx_base.specs.Members.{◌≈◌}
+use Rattle.dx_base.proofs.Members.{same_append, same_equal, same_map, same_trans}
 use Rattle.dx_model.specs.declared.values.Value.{Value}
 use Rattle.dx_model.specs.declared.values.Value.TheVariants.{Const, Null}
 use Rattle.dx_model.specs.declared.facts.Fact.{Fact}

@@ -1,7 +1,7 @@
 -- Used columns: a(x0, x1, x2), b(x2) -> p(x0) asks nothing of the second column of a, and uses all others; a(x0, x1, x2) -> p(x1)
 -- uses the second alone.
 use Rattle.std.proofs.Common.{◌≡◌, ℕ, true, false, List, [], ◌∷◌, refl, sym, ◌∙◌, ap, subst, arith, inl, inr}
-use Rattle.dx_ports.specs.Members.{here, there}
+use Rattle.dx_base.specs.Members.{here, there}
 use Rattle.dx_model.specs.declared.values.Value.TheVariants.{Const}
 use Rattle.dx_model.specs.declared.facts.Fact.{Fact}
 use Rattle.dx_model.specs.declared.rules.Cell.TheVariants.{Var, Lit}

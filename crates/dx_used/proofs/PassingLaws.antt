@@ -3,9 +3,9 @@ use Rattle.std.proofs.Common.{◌≡◌, ℕ, zero, suc, Bool, true, false, List
 use Rattle.std.specs.Prelude.{◌==◌, if◌then◌else◌, slice_get}
 use Rattle.std.specs.List.{list_all}
 use Rattle.std.proofs.lemmas.Bool.{eqb-true}
-use Rattle.dx_ports.specs.Members.{◌∈◌, ◌⊆◌}
-use Rattle.dx_ports.proofs.Members.{from_map, in_map}
-use Rattle.dx_ports.proofs.Tests.{from_all, from_filter, to_all, to_filter}
+use Rattle.dx_base.specs.Members.{◌∈◌, ◌⊆◌}
+use Rattle.dx_base.proofs.Members.{from_map, in_map}
+use Rattle.dx_base.proofs.Tests.{from_all, from_filter, to_all, to_filter}
 use Rattle.dx_model.specs.declared.values.Value.{Value}
 use Rattle.dx_model.specs.declared.facts.Fact.{Fact}
 use Rattle.dx_lines.specs.declared.line.Condition.{Condition}

@@ -10,11 +10,11 @@ use Rattle.dx_model.specs.declared.rules.Cell.TheVariants.{Var, Ex, Lit}
 use Rattle.dx_model.specs.declared.rules.Atom.{Atom}
 use Rattle.dx_model.specs.declared.rules.Derived.{Derived}
 use Rattle.dx_model.specs.declared.rules.Rule.{Rule}
-use Rattle.dx_ports.specs.Members.{◌∈◌, here, there}
-use Rattle.dx_ports.proofs.Members.{in_map, from_map, in_flat_map, same_sym}
-use Rattle.dx_ports.proofs.Tests.{map_same}
+use Rattle.dx_base.specs.Members.{◌∈◌, here, there}
+use Rattle.dx_base.proofs.Members.{in_map, from_map, in_flat_map, same_sym}
+use Rattle.dx_base.proofs.Tests.{map_same}
 use Rattle.dx_model.specs.Values.{Tuple, Conversions}
-use Rattle.dx_ports.specs.Texts.{Text}
+use Rattle.dx_base.specs.Texts.{Text}
 use Rattle.dx_model.specs.Rules.{cell_value, premise_fact, after_cells, cells_of, Derive, IsMatch, exported, IsRows, Satisfies}
 use Rattle.dx_model.proofs.Canonical.{from_variables}
 use Rattle.dx_model.proofs.RowsExist.{below_after}

@@ -1,6 +1,6 @@
 -- Rules see of an instance the columns that they use, and nothing else.
 use Rattle.std.specs.Prelude.{List}
-use Rattle.dx_ports.specs.Members.{Each}
+use Rattle.dx_base.specs.Members.{Each}
 use Rattle.dx_model.specs.declared.facts.Fact.{Fact}
 use Rattle.dx_model.specs.declared.rules.Rule.{Rule}
 use Rattle.dx_model.specs.Values.{Conversions, Rows}

@@ -1,6 +1,6 @@
 -- Columns that conditions name. They are read, whether or not a rule uses them: what a condition tests must stand there.
 use Rattle.std.specs.Prelude.{◌≡◌, ◌<◌, ◌↔◌, ◌⊎◌, ℕ, true, false, List, length, slice_index_or}
-use Rattle.dx_ports.specs.Members.{◌∈◌, Each}
+use Rattle.dx_base.specs.Members.{◌∈◌, Each}
 use Rattle.dx_model.specs.declared.rules.Rule.{Rule}
 use Rattle.dx_lines.specs.declared.line.Condition.{Condition}
 use Rattle.dx_used.specs.Used.{IsUsed, Marks, marks_at}

@@ -1,6 +1,6 @@
 // The columns that rules use or conditions name.
 ghost use Rattle.std.specs.Prelude.{◌≡◌, true, IfOk, OnOk, length, slice_index_or};
-ghost use Rattle.dx_ports.specs.Members.{Each};
+ghost use Rattle.dx_base.specs.Members.{Each};
 ghost use Rattle.dx_model.specs.declared.rules.Rule.{Rule};
 ghost use Rattle.dx_model.specs.Fitting.{IsRule};
 ghost use Rattle.dx_used.specs.Used.{AreIdle, AsksOfValue, HaveWidths, IsUsedBy, UsesOnly, mentions};
@@ -8,9 +8,9 @@ ghost use Rattle.dx_used.specs.Named.{AreExact, IsNamed, ReadNamed};
 ghost use Rattle.dx_used.specs.Counting.{AreNewWhere, AreRead, AreUsed, CountsCells, CellHasPlace, KeepMarks, ReadsNamed, UsesOnlyOf};
 
 use crate::mentions::{is_idle, mentions_of};
+use dx_base::Items;
 use dx_lines::Condition;
 use dx_model::{Cell, Rule};
-use dx_ports::Items;
 use std::alloc::{AllocError, Global};
 
 // Marks each column whose cell asks something of the value there.

@@ -1,7 +1,7 @@
 -- Mappings between small schemas: which have keys alone, and which are plain.
 use Rattle.std.proofs.Common.{zero, suc, true, List, [], ◌∷◌, refl}
-use Rattle.dx_ports.specs.Members.{here, there}
-use Rattle.dx_ports.specs.Texts.{Text}
+use Rattle.dx_base.specs.Members.{here, there}
+use Rattle.dx_base.specs.Texts.{Text}
 use Rattle.dx_schema.specs.Forest.{Forest, none, set}
 use Rattle.dx_schema.specs.Tables.{model_tables}
 use Rattle.dx_logical.specs.Laws.{HasNoOptional}

@@ -1,8 +1,8 @@
 -- What links and rules of a schema have to be, in a text of any version: links to nothing, more refs than a limit, and the first of
 -- two circles.
 use Rattle.std.proofs.Common.{ℕ, List, [], ◌∷◌, false, arith, refl}
-use Rattle.dx_ports.specs.Members.{here}
-use Rattle.dx_ports.specs.Texts.{Text}
+use Rattle.dx_base.specs.Members.{here}
+use Rattle.dx_base.specs.Texts.{Text}
 use Rattle.dx_model.specs.declared.tables.Link.{Link}
 use Rattle.dx_model.specs.Tables.{Table}
 use Rattle.dx_schema.specs.Bounds.{RulesBelow}

@@ -1,6 +1,6 @@
 -- What texts of the earlier versions say.
 use Rattle.std.specs.Prelude.{◌≡◌, ◌<◌, ℕ, List, []}
-use Rattle.dx_ports.specs.Members.{Each}
+use Rattle.dx_base.specs.Members.{Each}
 use Rattle.dx_schema.specs.Forest.{Forest}
 use Rattle.dx_schema.specs.Tables.{model_tables, tables_of}
 use Rattle.dx_schema_text.specs.declared.texts.MappingText.{MappingText}

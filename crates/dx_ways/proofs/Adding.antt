@@ -4,7 +4,7 @@ use Rattle.std.specs.Prelude.{◌↔◌}
 use Rattle.std.specs.declared.cmp.Ordering.{Ordering}
 use Rattle.std.specs.declared.cmp.Ordering.TheVariants.{Less, Equal, Greater}
 use Rattle.std.proofs.lemmas.List.{drop_more, take_more, append_assoc}
-use Rattle.dx_ports.specs.Members.{◌∈◌, here, there}
+use Rattle.dx_base.specs.Members.{◌∈◌, here, there}
 use Rattle.dx_lines.specs.declared.candidate.Pick.{Pick}
 use Rattle.dx_lines.specs.Ways.{pick_cmp, put_by, put_in, ascending}
 use Rattle.dx_lines.proofs.Ascending.{from_put, from_ascending}

@@ -3,8 +3,8 @@ use Rattle.std.proofs.Common.{◌≡◌, ℕ, true, cond, List, [], ◌∷◌, i
 use Rattle.std.specs.Prelude.{map}
 use Rattle.std.specs.List.{list_any, filter}
 use Rattle.std.proofs.lemmas.Bool.{cases_Bool, cond-true, cond-false, eqb-true, eq-eqb, or_left, or_right, false≢true}
-use Rattle.dx_ports.specs.Members.{◌∈◌, here, there, Each}
-use Rattle.dx_ports.proofs.Members.{in_map, from_map, in_flat_map, from_flat_map}
+use Rattle.dx_base.specs.Members.{◌∈◌, here, there, Each}
+use Rattle.dx_base.proofs.Members.{in_map, from_map, in_flat_map, from_flat_map}
 use Rattle.dx_logical.specs.declared.relation.Occurrence.{Occurrence}
 use Rattle.dx_lines.specs.declared.line.Place.{Place}
 use Rattle.dx_lines.specs.declared.line.Origin.{Origin}
@@ -13,7 +13,7 @@ use Rattle.dx_lines.specs.declared.term.Term.{Term}
 use Rattle.dx_lines.specs.declared.term.Term.TheVariants.{Var, Call}
 use Rattle.dx_lines.specs.Ways.{is_of, variable_in, named_columns, with_table, occurrence_choices, variable_at, term_by}
 use Rattle.dx_ways.specs.Laws.{seen_at, TermBy, ChoosesOf}
-use Rattle.dx_ports.proofs.Tests.{from_filter, to_filter, map_same}
+use Rattle.dx_base.proofs.Tests.{from_filter, to_filter, map_same}
 
 -- ---- the first occurrence of a table
 

@@ -4,8 +4,8 @@ use Rattle.std.specs.Prelude.{map, flat_map}
 use Rattle.std.specs.List.{filter, list_any, list_all}
 use Rattle.std.proofs.lemmas.Bool.{eqb-true, eq-eqb, and_parts, and_from, true≢false, false≢true}
 use Rattle.std.proofs.lemmas.List.{drop_more, drop_all, append-nil}
-use Rattle.dx_ports.specs.Members.{◌∈◌, here, there, ◌⊆◌, Each}
-use Rattle.dx_ports.proofs.Members.{in_map, from_map, in_flat_map, from_flat_map}
+use Rattle.dx_base.specs.Members.{◌∈◌, here, there, ◌⊆◌, Each}
+use Rattle.dx_base.proofs.Members.{in_map, from_map, in_flat_map, from_flat_map}
 use Rattle.dx_logical.specs.declared.relation.Occurrence.{Occurrence}
 use Rattle.dx_lines.specs.declared.line.Place.{Place}
 use Rattle.dx_lines.specs.declared.line.Origin.{Origin}
@@ -21,7 +21,7 @@ use Rattle.dx_ways.proofs.Choosing.{first_of, Inside, HasTables, IsBy, has_more,
 use Rattle.dx_ways.proofs.WaysAre.{IsLineWay, from_line, to_line}
 use Rattle.dx_ways.proofs.Unlike.{from_unlike, to_unlike, first_like, first_like_is}
 use Rattle.dx_ways.proofs.Adding.{all_append, all_grows, all_same, all_is_ascending, all_ascends}
-use Rattle.dx_ports.proofs.Tests.{from_filter, to_filter, to_any, map_same}
+use Rattle.dx_base.proofs.Tests.{from_filter, to_filter, to_any, map_same}
 
 -- ---- choices that are tried
 

@@ -4,13 +4,13 @@ use Rattle.std.specs.Prelude.{map}
 use Rattle.std.specs.List.{list_any}
 use Rattle.std.proofs.lemmas.Bool.{cases_Bool, cond-true, cond-false, false≢true}
 use Rattle.std.proofs.lemmas.List.{drop_more, map-append}
-use Rattle.dx_ports.specs.Members.{◌∈◌, here, there}
-use Rattle.dx_ports.proofs.Members.{in_left, in_right, from_append}
+use Rattle.dx_base.specs.Members.{◌∈◌, here, there}
+use Rattle.dx_base.proofs.Members.{in_left, in_right, from_append}
 use Rattle.dx_logical.specs.declared.relation.Occurrence.{Occurrence}
 use Rattle.dx_lines.specs.declared.line.Place.{Place}
 use Rattle.dx_lines.specs.Ways.{is_of, variable_in}
 use Rattle.dx_ways.specs.Tried.{column_of, with_unlike}
-use Rattle.dx_ports.proofs.Tests.{from_any}
+use Rattle.dx_base.proofs.Tests.{from_any}
 
 -- ---- steps of the loops
 

@@ -3,8 +3,8 @@ use Rattle.std.proofs.Common.{◌≡◌, ℕ, ◌≤◌, List, length, ap, subst
 use Rattle.std.specs.Prelude.{flat_map}
 use Rattle.std.specs.List.{filter}
 use Rattle.std.proofs.lemmas.Bool.{eqb-true, eq-eqb}
-use Rattle.dx_ports.specs.Members.{◌∈◌, ◌⊆◌, Each}
-use Rattle.dx_ports.proofs.Members.{in_map, from_map, in_flat_map, from_flat_map}
+use Rattle.dx_base.specs.Members.{◌∈◌, ◌⊆◌, Each}
+use Rattle.dx_base.proofs.Members.{in_map, from_map, in_flat_map, from_flat_map}
 use Rattle.dx_logical.specs.declared.relation.Occurrence.{Occurrence}
 use Rattle.dx_lines.specs.declared.line.Line.{Line}
 use Rattle.dx_lines.specs.declared.candidate.Pick.{Pick}
@@ -13,7 +13,7 @@ use Rattle.dx_ways.specs.Laws.{TermBy, ChoosesOf, IsWay, WaysAre, WaysAscend, Wa
 use Rattle.dx_ways.proofs.Order.{no_longer}
 use Rattle.dx_ways.proofs.Puts.{to_ascending, ascending_ascends}
 use Rattle.dx_ways.proofs.Choosing.{first_of, from_choices, to_choices, from_term_by, to_term_by, first_chosen, seen_by}
-use Rattle.dx_ports.proofs.Tests.{from_filter, to_filter}
+use Rattle.dx_base.proofs.Tests.{from_filter, to_filter}
 use Rattle.dx_lines.proofs.Ascending.{from_ascending}
 
 -- what a line's ways are

@@ -1,7 +1,7 @@
 -- What holds of ways: their members without a list, their order, and that they grow with the occurrences.
 use Rattle.std.specs.Prelude.{◌≡◌, ℕ, ◌↔◌, List, [], ◌∷◌, map}
 use Rattle.std.specs.declared.cmp.Ordering.TheVariants.{Less}
-use Rattle.dx_ports.specs.Members.{◌∈◌, ◌⊆◌, Each}
+use Rattle.dx_base.specs.Members.{◌∈◌, ◌⊆◌, Each}
 use Rattle.dx_logical.specs.declared.relation.Occurrence.{Occurrence}
 use Rattle.dx_lines.specs.declared.line.Place.{Place}
 use Rattle.dx_lines.specs.declared.line.Origin.{Origin}

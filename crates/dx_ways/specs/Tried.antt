@@ -1,7 +1,7 @@
 -- What is tried to find the ways of a line: each choice among occurrences that are unlike each other.
 use Rattle.std.specs.Prelude.{ℕ, ◌<◌, Bool, not, cond, ◌&&◌, ◌||◌, eqb, Option, Some, None, List, [], ◌∷◌, ◌++◌, length, map, flat_map}
 use Rattle.std.specs.List.{filter, list_any, list_all}
-use Rattle.dx_ports.specs.declared.limits.TheConstants.{WAYS}
+use Rattle.dx_base.specs.declared.limits.TheConstants.{WAYS}
 use Rattle.dx_logical.specs.declared.relation.Occurrence.{Occurrence}
 use Rattle.dx_lines.specs.declared.line.Place.{Place}
 use Rattle.dx_lines.specs.declared.line.Origin.{Origin}

@@ -1,7 +1,7 @@
 // The ways between occurrences.
 ghost use Rattle.std.specs.Prelude.{◌≡◌, ◌≤◌, ◌<◌, IfOk, IfErr, OnOk, length};
-ghost use Rattle.dx_ports.specs.declared.limits.TheConstants.{WAYS};
-ghost use Rattle.dx_ports.specs.Members.{Each};
+ghost use Rattle.dx_base.specs.declared.limits.TheConstants.{WAYS};
+ghost use Rattle.dx_base.specs.Members.{Each};
 ghost use Rattle.dx_lines.specs.Ways.{line_ways, ways as ways_of};
 ghost use Rattle.dx_lines.specs.Reading.{CanBeRead, IsReached};
 ghost use Rattle.dx_ways.specs.declared.fault.WaysFault.TheVariants.{TooMany};

@@ -3,8 +3,8 @@ ghost use Rattle.std.specs.Prelude.{◌≡◌, IfOk};
 ghost use Rattle.dx_lines.specs.Ways.{pick_cmp, term_cmp};
 ghost use Rattle.dx_lines.specs.Kept.{is_pick_among};
 
+use dx_base::Items;
 use dx_lines::{Pick, Term};
-use dx_ports::Items;
 use std::alloc::{AllocError, Global};
 use std::cmp::Ordering;
 

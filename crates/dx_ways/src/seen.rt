@@ -4,9 +4,9 @@ ghost use Rattle.std.specs.List.{list_any};
 ghost use Rattle.dx_lines.specs.Ways.{is_of, named_columns, term_by, variable_at as variable_at_of, variable_in as variable_in_of};
 ghost use Rattle.dx_ways.specs.Tried.{column_of, has_tables as has_tables_of, is_like as is_like_of, one_or_none, with_unlike};
 
+use dx_base::Items;
 use dx_lines::{Origin, Place, Term};
 use dx_logical::Occurrence;
-use dx_ports::Items;
 use std::alloc::{AllocError, Global};
 use std::slice::from_ref;
 

@@ -1,6 +1,6 @@
 // The picks that choices of occurrences give, put into an ascending list, of as many as there may be ways.
 ghost use Rattle.std.specs.Prelude.{◌≡◌, ◌≤◌, ◌<◌, ◌∷◌, IfOk, IfErr, OnOk, insert, length, map};
-ghost use Rattle.dx_ports.specs.Members.{behind};
+ghost use Rattle.dx_base.specs.Members.{behind};
 ghost use Rattle.dx_lines.specs.Ways.{pick, put_in};
 ghost use Rattle.dx_ways.specs.declared.fault.WaysFault.TheVariants.{TooMany};
 ghost use Rattle.dx_ways.specs.Tried.{AreTooMany, picks_by, put_all, tried};
@@ -8,9 +8,9 @@ ghost use Rattle.dx_ways.specs.Tried.{AreTooMany, picks_by, put_all, tried};
 use crate::fault::WaysFault;
 use crate::picks::{copy_term, pick_order};
 use crate::seen::{has_table, term_of};
+use dx_base::limits::WAYS;
 use dx_lines::{Origin, Pick, Place, Term};
 use dx_logical::Occurrence;
-use dx_ports::limits::WAYS;
 use std::alloc::{AllocError, Global};
 use std::cmp::Ordering;
 

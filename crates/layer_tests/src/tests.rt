@@ -8,7 +8,7 @@ mod sets;
 mod values;
 mod variants;
 
-use dx_ports::Text;
+use dx_base::Text;
 use std::alloc::{AllocError, Global};
 use std::test::Fail;
 

@@ -1,14 +1,14 @@
 // Public calls one by one, where there is memory enough.
 ghost use Rattle.std.specs.Prelude.{◌≡◌, IfOk, length, map};
-ghost use Rattle.dx_ports.specs.Members.{◌∈◌};
+ghost use Rattle.dx_base.specs.Members.{◌∈◌};
 ghost use Rattle.dx_funcs.specs.Offers.{IsListed};
 ghost use Rattle.dx_funcs.specs.Shipped.{shipped_apply, shipped_conversions, shipped_passes, shipped_row_tests};
 
 use crate::tests::faults::PEOPLE;
 use crate::tests::shipped::passes;
 use clio_top::{AcceptFault, accept};
+use dx_base::{Items, Text};
 use dx_funcs::{Host, Meaning, Shipped, Tests, convert, shipped_list, shipped_tests};
-use dx_ports::{Items, Text};
 use std::alloc::{AllocError, Global};
 use std::test::Fail;
 

@@ -1,16 +1,16 @@
 // The candidates of lines, by the numbers of what they name, and how many of them are kept.
 ghost use Rattle.std.specs.Prelude.{◌≡◌, IfOk, length};
-ghost use Rattle.dx_ports.specs.Members.{Each};
+ghost use Rattle.dx_base.specs.Members.{Each};
 ghost use Rattle.dx_schema.specs.Tables.{model_tables};
 ghost use Rattle.dx_funcs.specs.Offers.{IsListed};
 ghost use Rattle.dx_funcs.specs.Shipped.{shipped_apply, shipped_conversions};
 ghost use Rattle.dx_lines.specs.Limits.{LineFits};
 
+use dx_base::{Items, Text};
 use dx_candidates::{candidates, kept};
 use dx_funcs::{Host, Meaning, Shipped, convert, shipped_list};
 use dx_line_text::read_lines;
 use dx_lines::Line;
-use dx_ports::{Items, Text};
 use dx_schema::{Schema, Trees};
 use dx_schema_text::{LineText, MappingText, read_mapping};
 use std::alloc::{AllocError, Global};

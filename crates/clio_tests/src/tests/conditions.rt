@@ -10,8 +10,9 @@ ghost use Rattle.clio_tests.specs.Own.{begins_with_a};
 use crate::tests::faults::file;
 use clio_status::status_and_message;
 use clio_top::run;
+use dx_base::{File, Items, Text};
 use dx_funcs::{Host, Meaning, RowTest, Tests, convert, shipped_list};
-use dx_ports::{File, Items, MemInputs, MemOutputs, Text};
+use dx_ports::{MemInputs, MemOutputs};
 use std::alloc::{AllocError, Global};
 use std::test::Fail;
 

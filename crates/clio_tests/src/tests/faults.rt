@@ -1,6 +1,6 @@
 // Faults outside: each read, each write and each saying fails in turn.
 ghost use Rattle.std.specs.Prelude.{◌≡◌, IfOk, length, map};
-ghost use Rattle.dx_ports.specs.Members.{◌∈◌};
+ghost use Rattle.dx_base.specs.Members.{◌∈◌};
 ghost use Rattle.dx_funcs.specs.Offers.{IsListed};
 ghost use Rattle.dx_funcs.specs.Judging.{Decides};
 ghost use Rattle.dx_funcs.specs.Serving.{Serves};
@@ -9,8 +9,9 @@ ghost use Rattle.dx_funcs.specs.Shipped.{shipped_apply, shipped_conversions, shi
 use crate::tests::shipped::passes;
 use clio_status::status_and_message;
 use clio_top::{Ending, run};
+use dx_base::{File, Items, Text};
 use dx_funcs::{Host, Meaning, Shipped, Tests, convert, shipped_list, shipped_tests};
-use dx_ports::{File, Items, MemInputs, MemOutputs, Text};
+use dx_ports::{MemInputs, MemOutputs};
 use std::alloc::{AllocError, Global};
 use std::test::Fail;
 

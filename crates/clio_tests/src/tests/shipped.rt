@@ -1,10 +1,10 @@
 // The row tests that come with the program.
 ghost use Rattle.std.specs.Prelude.{◌≡◌, IfOk, map};
-ghost use Rattle.dx_ports.specs.Members.{◌∈◌};
+ghost use Rattle.dx_base.specs.Members.{◌∈◌};
 ghost use Rattle.dx_funcs.specs.Shipped.{shipped_passes, shipped_row_tests};
 
+use dx_base::Text;
 use dx_funcs::check_row;
-use dx_ports::Text;
 use std::alloc::AllocError;
 
 /// Whether a text passes a row test that comes with the program.

@@ -10,10 +10,10 @@ ghost use Rattle.dx_script.specs.Fits.{FitsScript};
 ghost use Rattle.clio_accept.specs.Laws.{MappingFits};
 
 use clio_accept::{AcceptFault, Mapping, accept};
+use dx_base::{Count, Items, Limit, Text};
 use dx_eval::{EvalFault, Made, eval};
 use dx_funcs::{Host, Meaning, Shipped, Tests, convert, shipped_list};
 use dx_instance::{Fact, Instance, Row, value_read, value_text};
-use dx_ports::{Count, Items, Limit, Text};
 use dx_schema::Schema;
 use dx_script::Script;
 use dx_scriptgen::{plain_script, rewritten_script};

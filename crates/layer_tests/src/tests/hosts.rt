@@ -3,8 +3,8 @@ ghost use Rattle.std.specs.Prelude.{◌≡◌, [], IfOk, length, slice_index_or}
 ghost use Rattle.dx_funcs.specs.Serving.{Serves};
 
 use crate::tests::words;
+use dx_base::{Items, Text};
 use dx_funcs::{Conversion, Host, Meaning};
-use dx_ports::{Items, Text};
 use std::alloc::{AllocError, Global};
 use std::test::Fail;
 

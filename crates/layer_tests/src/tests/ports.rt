@@ -1,7 +1,8 @@
 // Texts, the fakes of files, and records.
 use crate::tests::words;
+use dx_base::{File, Items, Text};
 use dx_csv::{load_table, print_records};
-use dx_ports::{File, Inputs, Items, MemInputs, MemOutputs, Outputs, PutFault, Text};
+use dx_ports::{Inputs, MemInputs, MemOutputs, Outputs, PutFault};
 use dx_schema_text::tokens;
 use std::alloc::{AllocError, Global};
 use std::test::Fail;

@@ -3,9 +3,9 @@ ghost use Rattle.std.specs.Prelude.{◌<◌, length, IfOk};
 ghost use Rattle.dx_schema.specs.Tables.{tables_of};
 ghost use Rattle.dx_schema.specs.Bounds.{HasFewRules};
 
+use dx_base::{Items, Text};
 use dx_closing::can_be_closed;
 use dx_model::{Atom, Cell};
-use dx_ports::{Items, Text};
 use dx_schema::{DepDecl, KeyDecl, RefDecl, Schema, SetTree, Trees};
 use std::alloc::{AllocError, Global};
 use std::test::Fail;

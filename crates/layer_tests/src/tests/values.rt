@@ -3,10 +3,10 @@ ghost use Rattle.std.specs.Prelude.{◌≡◌, IfOk};
 ghost use Rattle.dx_schema.specs.Tables.{schema_widths};
 ghost use Rattle.dx_instance.specs.Stored.{widths};
 
+use dx_base::Text;
 use dx_instance::{
     Gathered, Instance, Ordered, Row, Symbols, Value, copy_value, value_read, value_text,
 };
-use dx_ports::Text;
 use dx_schema::Schema;
 use std::alloc::{AllocError, Global};
 

@@ -2,8 +2,8 @@ use Rattle.std.proofs.Common.{◌∙◌, ◌∷◌, ◌++◌, [], length, rules,
 use Rattle.std.proofs.lemmas.Iterator.Adapters.{YieldsList-from_vec}
 use Rattle.std.proofs.lemmas.Iterator.Consumers.{YieldsList-end, YieldsList-turn}
 use Rattle.std.proofs.lemmas.Result.{err_from_is_err_and}
-use Rattle.dx_ports.specs.Members.{Each}
-use Rattle.dx_ports.proofs.Loops.{each_item}
+use Rattle.dx_base.specs.Members.{Each}
+use Rattle.dx_base.proofs.Loops.{each_item}
 use Rattle.dx_model.specs.declared.rules.Rule.{Rule}
 use Rattle.dx_model.specs.Fitting.{AreNumbered}
 use Rattle.dx_model.specs.Solutions.{AtomFits}

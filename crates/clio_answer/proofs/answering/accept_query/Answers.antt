@@ -1,6 +1,6 @@
 use Rattle.std.proofs.Common.{◌∙◌, ◌≤◌, List, length, subst, sym}
 use Rattle.std.proofs.lemmas.Bool.{true≢false}
-use Rattle.dx_ports.specs.Members.{Each}
+use Rattle.dx_base.specs.Members.{Each}
 use Rattle.dx_queries.specs.declared.query.Part.{Part}
 use Rattle.clio_answer.proofs.Queried.{never_deep, too_many}
 use Rattle.clio_answer.proofs.answering.accept_query.Goals as goal

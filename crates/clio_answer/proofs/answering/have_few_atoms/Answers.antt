@@ -1,5 +1,5 @@
 use Rattle.std.proofs.Common.{◌≤◌, arith, length}
-use Rattle.dx_ports.proofs.Loops.{all_so, each_item, each_more}
+use Rattle.dx_base.proofs.Loops.{all_so, each_item, each_more}
 use Rattle.dx_queries.specs.declared.query.Part.{Part}
 use Rattle.clio_answer.proofs.answering.have_few_atoms.Goals as goal
 

@@ -1,5 +1,5 @@
 use Rattle.std.proofs.Common.{◌≤◌, length, take}
-use Rattle.dx_ports.specs.Members.{Each}
+use Rattle.dx_base.specs.Members.{Each}
 use Rattle.clio_answer.proofs.answering.have_few_atoms.Given as goal
 
 abbrev pub invariant-loop-part : goal.invariant-loop-part

@@ -1,7 +1,7 @@
 use Rattle.std.proofs.lemmas.Result.{err_from_is_err_and}
 use Rattle.dx_funcs.specs.Judging.{tested}
 use Rattle.dx_funcs.specs.Serving.{offered}
-use Rattle.dx_ports.specs.Entries.{entries_of}
+use Rattle.dx_base.specs.Entries.{entries_of}
 use Rattle.dx_stages.proofs.Running.{ran_become}
 use Rattle.dx_compare.specs.declared.comparing.Comparison.{Comparison}
 use Rattle.clio_accept.specs.declared.mapping.Mapping.{Mapping}

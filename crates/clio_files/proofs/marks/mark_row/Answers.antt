@@ -1,6 +1,6 @@
 use Rattle.std.proofs.Common.{◌<◌, ◌+◌, ◌-◌, ◌++◌, ◌∙◌, List, ℕ, true, arith, get_or, length, subst}
 use Rattle.std.proofs.lemmas.List.{length-set, take_all}
-use Rattle.dx_ports.proofs.Members.{in_at}
+use Rattle.dx_base.proofs.Members.{in_at}
 use Rattle.clio_files.specs.Marks.{AreMarks}
 use Rattle.clio_files.proofs.MarkFacts.{row_before, row_marked}
 use Rattle.clio_files.proofs.marks.mark_row.Goals as goal

@@ -1,5 +1,5 @@
 use Rattle.std.proofs.Common.{take, get_or, [], ◌∷◌}
-use Rattle.dx_ports.proofs.Members.{in_at}
+use Rattle.dx_base.proofs.Members.{in_at}
 use Rattle.dx_model.specs.Instances.{nulls_in}
 use Rattle.dx_instance.specs.Shown.{shown_row}
 use Rattle.clio_files.proofs.SheetNulls.{number_constant, number_null, pushed}

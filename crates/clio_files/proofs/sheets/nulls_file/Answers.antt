@@ -1,7 +1,7 @@
 use Rattle.std.proofs.Common.{[], ◌∙◌, ap, get_or, length, map, refl, subst, sym, take}
 use Rattle.std.specs.Prelude.{codes}
 use Rattle.std.proofs.lemmas.List.{length-map, take_all}
-use Rattle.dx_ports.proofs.Members.{in_at}
+use Rattle.dx_base.proofs.Members.{in_at}
 use Rattle.dx_model.specs.declared.values.NullId.{NullId}
 use Rattle.clio_files.specs.Printing.{AreRecords}
 use Rattle.clio_files.specs.Sheets.{nulls_sheet}

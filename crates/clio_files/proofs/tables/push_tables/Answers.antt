@@ -1,5 +1,5 @@
 use Rattle.std.proofs.Common.{◌<◌, ◌≤◌, length, arith, map}
-use Rattle.dx_ports.proofs.Members.{in_at}
+use Rattle.dx_base.proofs.Members.{in_at}
 use Rattle.dx_schema.specs.Tables.{tables_of}
 use Rattle.clio_files.specs.Files.{printed_view}
 use Rattle.clio_files.proofs.TextFiles.{adds_all, adds_more, adds_none}

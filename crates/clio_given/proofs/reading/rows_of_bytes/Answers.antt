@@ -1,5 +1,5 @@
 use Rattle.std.proofs.Common.{◌∙◌, ap, length, subst, sym, List}
-use Rattle.dx_ports.specs.Members.{◌∈◌}
+use Rattle.dx_base.specs.Members.{◌∈◌}
 use Rattle.dx_model.specs.declared.values.Value.{Value}
 use Rattle.dx_csv.specs.Table.{table_records}
 use Rattle.clio_given.proofs.Parsed.{table_wide}

@@ -1,5 +1,5 @@
-use Rattle.dx_ports.proofs.Members.{item_in}
-use Rattle.dx_ports.proofs.Options.{some_left, none_left}
+use Rattle.dx_base.proofs.Members.{item_in}
+use Rattle.dx_base.proofs.Options.{some_left, none_left}
 use Rattle.dx_instance.proofs.NumberFacts.{stays}
 use Rattle.dx_instance.proofs.ShownFacts.{extends_both}
 use Rattle.clio_given.proofs.Parsed.{all_numbered, no_row, none_numbered, numbered_more}

@@ -1,6 +1,6 @@
 use Rattle.std.proofs.Common.{◌∙◌, ◌+◌, ◌<◌, ℕ, ap, arith, length, sym, Some, List}
 use Rattle.std.proofs.lemmas.Option.{slice_get-get_or}
-use Rattle.dx_ports.proofs.Members.{item_in}
+use Rattle.dx_base.proofs.Members.{item_in}
 use Rattle.dx_model.specs.declared.values.Value.{Value}
 use Rattle.dx_instance.proofs.NumberFacts.{stays}
 use Rattle.dx_instance.proofs.ShownFacts.{extends_both}

@@ -1,4 +1,4 @@
-use Rattle.dx_ports.proofs.Members.{in_at}
+use Rattle.dx_base.proofs.Members.{in_at}
 use Rattle.dx_used.proofs.NamedFacts.{no_condition}
 use Rattle.clio_source.proofs.passing.passes_each.Goals as goal
 

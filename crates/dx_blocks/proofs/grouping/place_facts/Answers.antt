@@ -1,6 +1,6 @@
 use Rattle.std.proofs.Common.{refl}
 use Rattle.dx_model.specs.declared.facts.Fact.{Fact}
-use Rattle.dx_ports.proofs.Members.{in_flat_map}
+use Rattle.dx_base.proofs.Members.{in_flat_map}
 use Rattle.dx_blocks.proofs.Filling.{is_there, step_passed, step_filled}
 use Rattle.dx_blocks.proofs.grouping.place_facts.Goals as goal
 

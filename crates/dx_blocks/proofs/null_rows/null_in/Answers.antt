@@ -1,5 +1,5 @@
 use Rattle.std.proofs.Common.{◌<◌, arith}
-use Rattle.dx_ports.proofs.Members.{in_at}
+use Rattle.dx_base.proofs.Members.{in_at}
 use Rattle.dx_blocks.proofs.NullRowFacts.{number_more, all_below}
 use Rattle.dx_blocks.proofs.null_rows.null_in.Goals as goal
 

@@ -1,5 +1,5 @@
 use Rattle.std.proofs.Common.{◌<◌, take}
-use Rattle.dx_ports.specs.Members.{Each}
+use Rattle.dx_base.specs.Members.{Each}
 use Rattle.dx_blocks.proofs.null_rows.null_in.Given as goal
 
 abbrev pub invariant-loop-number : goal.invariant-loop-number

@@ -1,6 +1,6 @@
 use Rattle.std.proofs.Common.{◌<◌, ◌-◌, List, ℕ, get_or, length, sym, subst, arith}
-use Rattle.dx_ports.specs.Members.{◌∈◌}
-use Rattle.dx_ports.proofs.Members.{in_at}
+use Rattle.dx_base.specs.Members.{◌∈◌}
+use Rattle.dx_base.proofs.Members.{in_at}
 use Rattle.dx_instance.specs.Shown.{shown_row}
 use Rattle.dx_blocks.specs.NullRows.{nulls_from}
 use Rattle.dx_blocks.proofs.Labelling.{row_start}

@@ -1,7 +1,7 @@
 use Rattle.std.proofs.Common.{[], sym, ◌∙◌, arith}
 use Rattle.std.proofs.lemmas.List.{get_or_read}
 use Rattle.dx_model.specs.declared.rules.Cell.TheVariants.{Lit}
-use Rattle.dx_ports.proofs.Members.{in_at}
+use Rattle.dx_base.proofs.Members.{in_at}
 use Rattle.dx_closing.proofs.Steps.{has_stops, has_goes_on}
 use Rattle.dx_closing.proofs.cells.has_chosen.Goals as goal
 

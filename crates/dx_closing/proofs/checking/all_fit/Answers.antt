@@ -1,4 +1,4 @@
-use Rattle.dx_ports.proofs.Loops.{not_so, each_more, each_item, all_so}
+use Rattle.dx_base.proofs.Loops.{not_so, each_more, each_item, all_so}
 use Rattle.dx_model.specs.Solutions.{AtomFits}
 use Rattle.dx_schema.specs.Tables.{model_tables}
 use Rattle.dx_closing.proofs.checking.all_fit.Goals as goal

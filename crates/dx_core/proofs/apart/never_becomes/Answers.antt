@@ -1,5 +1,5 @@
 use Rattle.std.proofs.Common.{arith}
-use Rattle.dx_ports.proofs.Members.{in_at}
+use Rattle.dx_base.proofs.Members.{in_at}
 use Rattle.dx_core.proofs.NeverMoved.{as_wide, other_number}
 use Rattle.dx_core.proofs.apart.never_becomes.Goals as goal
 

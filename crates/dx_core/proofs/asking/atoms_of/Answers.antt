@@ -1,5 +1,5 @@
 use Rattle.std.proofs.Common.{◌∙◌, sym}
-use Rattle.dx_ports.proofs.Members.{in_at}
+use Rattle.dx_base.proofs.Members.{in_at}
 use Rattle.dx_blocks.specs.declared.numbered.At.{At}
 use Rattle.dx_core.proofs.Atoms.{atoms_all, none_so_far, row_added, row_skipped}
 use Rattle.dx_core.proofs.asking.atoms_of.Goals as goal

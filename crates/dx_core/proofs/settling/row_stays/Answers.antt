@@ -1,4 +1,4 @@
-use Rattle.dx_ports.proofs.Members.{in_at}
+use Rattle.dx_base.proofs.Members.{in_at}
 use Rattle.dx_core.proofs.settling.row_stays.Goals as goal
 
 pub value-requires : goal.value-requires

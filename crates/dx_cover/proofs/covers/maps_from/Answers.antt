@@ -1,4 +1,4 @@
-use Rattle.dx_ports.proofs.Members.{in_at}
+use Rattle.dx_base.proofs.Members.{in_at}
 use Rattle.dx_cover.proofs.covers.maps_from.Goals as goal
 
 pub cover-requires-clause-widths : goal.cover-requires-clause-widths

@@ -1,6 +1,6 @@
 use Rattle.std.proofs.Common.{◌≡◌, length, sym}
 use Rattle.std.proofs.lemmas.List.{take_all}
-use Rattle.dx_ports.proofs.Loops.{each_item, each_more}
+use Rattle.dx_base.proofs.Loops.{each_item, each_more}
 use Rattle.dx_model.specs.declared.rules.Atom.{Atom}
 use Rattle.dx_cover.specs.Partners.{IsExcluded}
 use Rattle.dx_cover.proofs.partners.has_partner.Goals as goal

@@ -1,4 +1,4 @@
-use Rattle.dx_ports.proofs.Members.{in_at}
+use Rattle.dx_base.proofs.Members.{in_at}
 use Rattle.dx_cover.proofs.Choosing.{no_partner}
 use Rattle.dx_cover.proofs.partners.have_partners.Goals as goal
 

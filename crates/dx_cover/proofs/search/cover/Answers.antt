@@ -1,6 +1,6 @@
 use Rattle.std.proofs.Common.{◌∙◌, ap, arith, length, subst}
-use Rattle.dx_ports.specs.Members.{◌∈◌}
-use Rattle.dx_ports.proofs.Members.{in_left, in_right}
+use Rattle.dx_base.specs.Members.{◌∈◌}
+use Rattle.dx_base.proofs.Members.{in_left, in_right}
 use Rattle.dx_cover.proofs.Covering.{existential_few}
 use Rattle.dx_cover.proofs.Memory.{all_last}
 use Rattle.dx_cover.proofs.Searching.{search_finds_used}

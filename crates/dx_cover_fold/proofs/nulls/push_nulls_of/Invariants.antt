@@ -1,5 +1,5 @@
 use Rattle.std.specs.Prelude.{◌↔◌, ◌⊎◌}
-use Rattle.dx_ports.specs.Members.{◌∈◌}
+use Rattle.dx_base.specs.Members.{◌∈◌}
 use Rattle.dx_model.specs.declared.values.NullId.{NullId}
 use Rattle.dx_cover_fold.specs.Folding.{IsNullOf}
 use Rattle.dx_cover_fold.proofs.nulls.push_nulls_of.Given as goal

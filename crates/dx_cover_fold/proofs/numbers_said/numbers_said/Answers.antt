@@ -1,4 +1,4 @@
-use Rattle.dx_ports.proofs.Members.{in_at}
+use Rattle.dx_base.proofs.Members.{in_at}
 use Rattle.dx_cover_fold.specs.declared.number_at.NumberAt.TheVariants.{Column}
 use Rattle.dx_cover_fold.proofs.numbers_said.numbers_said.Goals as goal
 

@@ -1,6 +1,6 @@
 use Rattle.std.proofs.Common.{subst}
 use Rattle.dx_model.specs.declared.values.Value.TheVariants.{Const}
-use Rattle.dx_ports.specs.Texts.{Text}
+use Rattle.dx_base.specs.Texts.{Text}
 use Rattle.dx_cover_fold.specs.Codes.{IsCode}
 use Rattle.dx_cover_fold.proofs.PlanFacts.{plan_literal, plan_outside}
 use Rattle.dx_cover_fold.proofs.plan.plan_cell.Goals as goal

@@ -1,6 +1,6 @@
 use Rattle.dx_cover_fold.specs.Codes.{IsPlanned}
 use Rattle.dx_cover_fold.proofs.plan.plan_cells.Goals as goal
-use Rattle.dx_ports.proofs.Lists.{zip_more}
+use Rattle.dx_base.proofs.Lists.{zip_more}
 
 pub loop-cell-preserved : goal.loop-cell-preserved
 loop-cell-preserved c =

@@ -4,7 +4,7 @@ use Rattle.std.proofs.lemmas.List.{get_or-map, get_or_default, length-map}
 use Rattle.dx_instance.specs.Numbers.{value_of}
 use Rattle.dx_joins.specs.Shown.{texts_of}
 use Rattle.dx_instance.specs.Ranks.{text_of_value}
-use Rattle.dx_ports.proofs.Members.{in_at}
+use Rattle.dx_base.proofs.Members.{in_at}
 use Rattle.dx_cover_fold.proofs.TextsOf.{text_here, text_nowhere, text_past}
 use Rattle.dx_cover_fold.proofs.rows_said.text_for.Goals as goal
 

@@ -1,5 +1,5 @@
 use Rattle.std.proofs.Common.{get_or, map, sym, subst, take}
-use Rattle.dx_ports.proofs.Members.{in_at}
+use Rattle.dx_base.proofs.Members.{in_at}
 use Rattle.dx_instance.specs.Shown.{shown_row}
 use Rattle.dx_instance.specs.ValueText.{value_text_of}
 use Rattle.dx_csv.specs.Lines.{HavePrinted}

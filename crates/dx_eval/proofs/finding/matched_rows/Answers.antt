@@ -1,6 +1,6 @@
 use Rattle.std.proofs.Common.{None}
 use Rattle.std.proofs.lemmas.Result.{IfOk-weaker}
-use Rattle.dx_ports.specs.Members.{Each}
+use Rattle.dx_base.specs.Members.{Each}
 use Rattle.dx_funcs.specs.Names.{call_named}
 use Rattle.dx_funcs.specs.Serving.{offered}
 use Rattle.dx_instance.specs.Shown.{shown_tables}

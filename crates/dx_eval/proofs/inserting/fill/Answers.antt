@@ -1,5 +1,5 @@
 use Rattle.std.proofs.Common.{◌∙◌, length}
-use Rattle.dx_ports.proofs.Loops.{each_item}
+use Rattle.dx_base.proofs.Loops.{each_item}
 use Rattle.dx_instance.proofs.ShownFacts.{extends_both}
 use Rattle.dx_joins.proofs.Growing.{texts_grow}
 use Rattle.dx_eval.specs.Inserting.{OutStands}

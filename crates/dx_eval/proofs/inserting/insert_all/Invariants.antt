@@ -1,6 +1,6 @@
 use Rattle.std.proofs.Common.{◌≡◌, ◌↔◌}
 use Rattle.dx_model.specs.declared.facts.Fact.{Fact}
-use Rattle.dx_ports.specs.Members.{◌∈◌}
+use Rattle.dx_base.specs.Members.{◌∈◌}
 use Rattle.dx_instance.specs.Numbers.{Extends}
 use Rattle.dx_instance.specs.Stored.{facts, widths}
 use Rattle.dx_schema.specs.Names.{table_names_of}

@@ -1,6 +1,6 @@
 use Rattle.std.proofs.Common.{◌≡◌, ◌∙◌, ◌<◌, ◌∷◌, [], ℕ, length, get_or, subst, ap, arith, List, map}
 use Rattle.std.proofs.lemmas.List.{get_or_default}
-use Rattle.dx_ports.proofs.Members.{in_at}
+use Rattle.dx_base.proofs.Members.{in_at}
 use Rattle.dx_instance.proofs.ShownFacts.{extends_both}
 use Rattle.dx_instance.specs.Shown.{shown_row}
 use Rattle.dx_instance.specs.Stored.{TableRows, widths}

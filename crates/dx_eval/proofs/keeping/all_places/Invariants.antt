@@ -1,5 +1,5 @@
 use Rattle.std.proofs.Common.{◌↔◌, ◌<◌, ℕ}
-use Rattle.dx_ports.specs.Members.{◌∈◌}
+use Rattle.dx_base.specs.Members.{◌∈◌}
 use Rattle.dx_eval.proofs.keeping.all_places.Given as goal
 
 abbrev pub invariant-loop-place : goal.invariant-loop-place

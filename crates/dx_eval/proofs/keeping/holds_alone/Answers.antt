@@ -1,5 +1,5 @@
 use Rattle.std.proofs.Common.{length}
-use Rattle.dx_ports.proofs.Loops.{all_so, each_item, each_more, not_so}
+use Rattle.dx_base.proofs.Loops.{all_so, each_item, each_more, not_so}
 use Rattle.dx_joins.specs.Shown.{texts_of}
 use Rattle.dx_tgd.proofs.Ascending.{number_there}
 use Rattle.dx_eval.specs.Keeping.{HoldsAlone, TestStands}

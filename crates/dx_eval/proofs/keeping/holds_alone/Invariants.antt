@@ -1,5 +1,5 @@
 use Rattle.std.proofs.Common.{take}
-use Rattle.dx_ports.specs.Members.{Each}
+use Rattle.dx_base.specs.Members.{Each}
 use Rattle.dx_joins.specs.Shown.{texts_of}
 use Rattle.dx_eval.specs.Keeping.{HoldsAlone}
 use Rattle.dx_eval.proofs.keeping.holds_alone.Given as goal

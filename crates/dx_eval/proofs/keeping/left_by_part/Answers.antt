@@ -1,6 +1,6 @@
 use Rattle.std.proofs.Common.{◌∙◌, get_or}
 use Rattle.std.proofs.lemmas.List.{get_or_default}
-use Rattle.dx_ports.proofs.Members.{in_at}
+use Rattle.dx_base.proofs.Members.{in_at}
 use Rattle.dx_tgd.proofs.Ascending.{row_there}
 use Rattle.dx_eval.specs.Keeping.{LacksPartner}
 use Rattle.dx_eval.proofs.Partners.{leaves_all, leaves_none, other_within, partner_is, place_gone, place_left}

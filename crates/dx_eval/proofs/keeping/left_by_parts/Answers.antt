@@ -1,5 +1,5 @@
 use Rattle.std.proofs.Common.{ℕ, List, length, subst, take}
-use Rattle.dx_ports.proofs.Loops.{each_item}
+use Rattle.dx_base.proofs.Loops.{each_item}
 use Rattle.dx_instance.specs.Shown.{numbers_of_table}
 use Rattle.dx_instance.proofs.ShownFacts.{table_read}
 use Rattle.dx_script.specs.declared.form.Test.{Test}

@@ -1,4 +1,4 @@
-use Rattle.dx_ports.proofs.Members.{in_at}
+use Rattle.dx_base.proofs.Members.{in_at}
 use Rattle.dx_eval.proofs.keys.gather.Goals as goal
 
 pub bounds-row-column : goal.bounds-row-column

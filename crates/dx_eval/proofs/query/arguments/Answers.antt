@@ -1,4 +1,4 @@
-use Rattle.dx_ports.proofs.Loops.{each_item}
+use Rattle.dx_base.proofs.Loops.{each_item}
 use Rattle.dx_schema.specs.Names.{table_names_of}
 use Rattle.dx_script.specs.Fits.{CellFits}
 use Rattle.dx_eval.proofs.query.arguments.Goals as goal

@@ -1,5 +1,5 @@
 use Rattle.dx_funcs.specs.Serving.{offered}
-use Rattle.dx_ports.proofs.Loops.{each_item}
+use Rattle.dx_base.proofs.Loops.{each_item}
 use Rattle.dx_schema.specs.Names.{table_names_of}
 use Rattle.dx_script.specs.Fits.{SelectFits}
 use Rattle.dx_eval.proofs.QueryFits.{call_args}

@@ -1,5 +1,5 @@
 use Rattle.std.proofs.Common.{◌∙◌, ◌+◌, ◌++◌, ◌∷◌, [], List, ℕ, ap, sym}
-use Rattle.dx_ports.proofs.Ranges.{range_more}
+use Rattle.dx_base.proofs.Ranges.{range_more}
 use Rattle.dx_eval.proofs.variables.fresh.Goals as goal
 
 pub loop-i-preserved : goal.loop-i-preserved

@@ -1,5 +1,5 @@
-use Rattle.dx_ports.proofs.Loops.{each_item}
-use Rattle.dx_ports.specs.Members.{◌∈◌}
+use Rattle.dx_base.proofs.Loops.{each_item}
+use Rattle.dx_base.specs.Members.{◌∈◌}
 use Rattle.dx_schema.specs.Names.{table_names_of}
 use Rattle.dx_script.specs.Names.{table_names}
 use Rattle.dx_eval.proofs.Joined.{separate_all, separate_step}

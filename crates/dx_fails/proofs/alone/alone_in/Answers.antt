@@ -1,5 +1,5 @@
 use Rattle.std.proofs.Common.{ap, arith, below_more, length}
-use Rattle.dx_ports.proofs.Members.{in_at}
+use Rattle.dx_base.proofs.Members.{in_at}
 use Rattle.dx_holds.proofs.Tables.{link_fits}
 use Rattle.dx_fails.proofs.Finding.{link_few}
 use Rattle.dx_fails.proofs.Placing.{all_lead, has_numbers, is_lone_in, link_holds}

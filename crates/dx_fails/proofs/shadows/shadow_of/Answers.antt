@@ -1,5 +1,5 @@
 use Rattle.std.proofs.Common.{arith}
-use Rattle.dx_ports.proofs.Members.{in_at}
+use Rattle.dx_base.proofs.Members.{in_at}
 use Rattle.dx_fails.proofs.shadows.shadow_of.Goals as goal
 
 pub cell-requires-clause-column : goal.cell-requires-clause-column

@@ -1,5 +1,5 @@
 use Rattle.std.specs.Prelude.{IsUtf8}
-use Rattle.dx_ports.proofs.Loops.{each_more}
+use Rattle.dx_base.proofs.Loops.{each_more}
 use Rattle.dx_funcs.proofs.host.are_utf8.Goals as goal
 
 pub loop-text-preserved : goal.loop-text-preserved

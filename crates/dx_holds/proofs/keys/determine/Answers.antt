@@ -1,4 +1,4 @@
-use Rattle.dx_ports.proofs.Loops.{not_so}
+use Rattle.dx_base.proofs.Loops.{not_so}
 use Rattle.dx_holds.proofs.Determining.{determine_more, not_determine}
 use Rattle.dx_holds.proofs.keys.determine.Goals as goal
 

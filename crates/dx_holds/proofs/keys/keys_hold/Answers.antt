@@ -1,5 +1,5 @@
 use Rattle.std.proofs.Common.{◌<◌, ◌≤◌, length, arith, below_more, refl}
-use Rattle.dx_ports.proofs.Loops.{not_so}
+use Rattle.dx_base.proofs.Loops.{not_so}
 use Rattle.dx_holds.proofs.Tables.{keys_hold_all, table_holds}
 use Rattle.dx_holds.proofs.keys.keys_hold.Goals as goal
 

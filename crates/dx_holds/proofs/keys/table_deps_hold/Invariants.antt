@@ -1,5 +1,5 @@
 use Rattle.std.proofs.Common.{take}
-use Rattle.dx_ports.specs.Members.{Each}
+use Rattle.dx_base.specs.Members.{Each}
 use Rattle.dx_schema.specs.Tables.{schema_table}
 use Rattle.dx_holds.specs.Columns.{RowsDetermine}
 use Rattle.dx_holds.proofs.keys.table_deps_hold.Given as goal

@@ -1,5 +1,5 @@
-use Rattle.dx_ports.proofs.Loops.{all_so, each_item, each_more, not_so}
-use Rattle.dx_ports.proofs.Members.{in_at}
+use Rattle.dx_base.proofs.Loops.{all_so, each_item, each_more, not_so}
+use Rattle.dx_base.proofs.Members.{in_at}
 use Rattle.dx_schema.specs.Tables.{schema_table}
 use Rattle.dx_holds.specs.Columns.{RowsLead}
 use Rattle.dx_holds.proofs.Tables.{link_fits}

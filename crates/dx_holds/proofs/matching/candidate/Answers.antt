@@ -1,6 +1,6 @@
 use Rattle.std.proofs.Common.{◌≡◌, ◌<◌, arith, get_or, length, subst}
-use Rattle.dx_ports.specs.Members.{◌∈◌}
-use Rattle.dx_ports.proofs.Members.{in_at, only_one}
+use Rattle.dx_base.specs.Members.{◌∈◌}
+use Rattle.dx_base.proofs.Members.{in_at, only_one}
 use Rattle.dx_model.specs.declared.rules.Cell.{Cell}
 use Rattle.dx_model.specs.Rules.{cells_of}
 use Rattle.dx_holds.specs.Searching.{texts}

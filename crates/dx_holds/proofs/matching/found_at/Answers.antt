@@ -1,7 +1,7 @@
 use Rattle.std.proofs.Common.{◌≡◌, get_or, rules}
 use Rattle.std.proofs.lemmas.List.{take_all, get_or_default}
-use Rattle.dx_ports.proofs.Loops.{each_more}
-use Rattle.dx_ports.proofs.Members.{from_map, in_at}
+use Rattle.dx_base.proofs.Loops.{each_more}
+use Rattle.dx_base.proofs.Members.{from_map, in_at}
 use Rattle.dx_holds.specs.declared.matching.Found.{Found}
 use Rattle.dx_holds.proofs.matching.found_at.Goals as goal
 

@@ -1,6 +1,6 @@
 use Rattle.std.proofs.Common.{◌≡◌, ℕ, refl, sym, subst, vec_capacity}
 use Rattle.std.specs.Prelude.{MatchBool}
-use Rattle.dx_ports.specs.Members.{here}
+use Rattle.dx_base.specs.Members.{here}
 use Rattle.dx_model.specs.declared.values.Value.{Value}
 use Rattle.dx_model.specs.declared.rules.Cell.{Cell}
 use Rattle.dx_model.specs.Rules.{cell_value}

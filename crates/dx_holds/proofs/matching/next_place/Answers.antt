@@ -1,5 +1,5 @@
 use Rattle.std.proofs.Common.{◌≡◌, ◌<◌, ◌^◌, ◌∙◌, [], ap, arith, length, sym, vec_capacity}
-use Rattle.dx_ports.proofs.Members.{in_at}
+use Rattle.dx_base.proofs.Members.{in_at}
 use Rattle.dx_instance.specs.Stored.{rows_of, table_at}
 use Rattle.dx_holds.specs.Searching.{texts}
 use Rattle.dx_holds.proofs.Narrowing.{cut, skips_more, skips_on}

@@ -1,5 +1,5 @@
 use Rattle.std.proofs.Common.{◌<◌, ℕ, take}
-use Rattle.dx_ports.specs.Members.{◌∈◌}
+use Rattle.dx_base.specs.Members.{◌∈◌}
 use Rattle.dx_model.specs.declared.rules.Cell.TheVariants.{Ex}
 use Rattle.dx_model.specs.Rules.{cells_of}
 use Rattle.dx_holds.proofs.room.above_atoms.Given as goal

@@ -1,6 +1,6 @@
 use Rattle.std.proofs.Common.{◌≡◌, ◌∙◌, ◌<◌, ℕ, arith, refl, sym}
 use Rattle.std.proofs.lemmas.List.{take_all}
-use Rattle.dx_ports.proofs.Loops.{each_more}
+use Rattle.dx_base.proofs.Loops.{each_more}
 use Rattle.dx_model.specs.declared.rules.Cell.{Cell}
 use Rattle.dx_model.specs.declared.rules.Cell.TheVariants.{Ex}
 use Rattle.dx_holds.proofs.Finding.{same_ex}

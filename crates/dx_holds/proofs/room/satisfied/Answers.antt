@@ -1,7 +1,7 @@
 use Rattle.std.proofs.Common.{◌≡◌, ◌∙◌, ◌<◌, ℕ, List, [], arith, get_or, length}
 use Rattle.std.proofs.lemmas.List.{get_or_default}
-use Rattle.dx_ports.specs.Members.{◌∈◌, Each}
-use Rattle.dx_ports.proofs.Loops.{all_so, each_item, each_more, not_so}
+use Rattle.dx_base.specs.Members.{◌∈◌, Each}
+use Rattle.dx_base.proofs.Loops.{all_so, each_item, each_more, not_so}
 use Rattle.dx_model.specs.declared.values.Value.{Value}
 use Rattle.dx_model.specs.Rules.{cells_of, exported, fact_of_atom}
 use Rattle.dx_model.specs.Values.{Tuple}

@@ -1,9 +1,9 @@
 use Rattle.std.proofs.Common.{◌≡◌, ℕ, get_or, refl, subst}
 use Rattle.std.proofs.lemmas.Bool.{false≢true}
 use Rattle.std.proofs.lemmas.List.{take_all, get_or_default}
-use Rattle.dx_ports.specs.Members.{◌∈◌}
-use Rattle.dx_ports.proofs.Loops.{each_more}
-use Rattle.dx_ports.proofs.Members.{in_at}
+use Rattle.dx_base.specs.Members.{◌∈◌}
+use Rattle.dx_base.proofs.Loops.{each_more}
+use Rattle.dx_base.proofs.Members.{in_at}
 use Rattle.dx_holds.proofs.searching.is_done.Goals as goal
 
 pub returns-then-other-atom : goal.returns-then-other-atom

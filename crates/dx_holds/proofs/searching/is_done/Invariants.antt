@@ -1,5 +1,5 @@
 use Rattle.std.proofs.Common.{◌≡◌, take}
-use Rattle.dx_ports.specs.Members.{Each}
+use Rattle.dx_base.specs.Members.{Each}
 use Rattle.dx_holds.proofs.searching.is_done.Given as goal
 
 abbrev pub invariant-loop-other : goal.invariant-loop-other

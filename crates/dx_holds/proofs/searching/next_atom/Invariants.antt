@@ -1,5 +1,5 @@
 use Rattle.std.proofs.Common.{ℕ, ◌<◌}
-use Rattle.dx_ports.specs.Members.{◌∈◌}
+use Rattle.dx_base.specs.Members.{◌∈◌}
 use Rattle.dx_holds.specs.Searching.{IsAtomWanted}
 use Rattle.dx_model.specs.Rules.{atom_at}
 use Rattle.dx_holds.proofs.searching.next_atom.Given as goal

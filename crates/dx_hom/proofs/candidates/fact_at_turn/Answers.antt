@@ -1,8 +1,8 @@
 use Rattle.std.proofs.Common.{◌∙◌, ◌<◌, length, get_or, subst, sym, rules}
 use Rattle.std.proofs.lemmas.List.{get_or_default}
 use Rattle.dx_model.specs.declared.facts.Fact.{Fact}
-use Rattle.dx_ports.specs.Members.{◌∈◌}
-use Rattle.dx_ports.proofs.Members.{in_at}
+use Rattle.dx_base.specs.Members.{◌∈◌}
+use Rattle.dx_base.proofs.Members.{in_at}
 use Rattle.dx_hom.proofs.candidates.fact_at_turn.Goals as goal
 
 pub bounds-from-at : goal.bounds-from-at

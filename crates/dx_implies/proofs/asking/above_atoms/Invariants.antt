@@ -1,5 +1,5 @@
 use Rattle.std.proofs.Common.{◌<◌, ℕ, take}
-use Rattle.dx_ports.specs.Members.{◌∈◌, Each}
+use Rattle.dx_base.specs.Members.{◌∈◌, Each}
 use Rattle.dx_solver.specs.declared.atom.Term.TheVariants.{Variable}
 use Rattle.dx_solver.specs.declared.atom.PatternAtom.{PatternAtom}
 use Rattle.dx_implies.proofs.asking.above_atoms.Given as goal

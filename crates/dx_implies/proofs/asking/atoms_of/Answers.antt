@@ -1,6 +1,6 @@
 use Rattle.std.proofs.Common.{refl, subst, List}
-use Rattle.dx_ports.proofs.Members.{in_flat_map, item_in}
-use Rattle.dx_ports.proofs.Options.{some_left, none_left}
+use Rattle.dx_base.proofs.Members.{in_flat_map, item_in}
+use Rattle.dx_base.proofs.Options.{some_left, none_left}
 use Rattle.dx_model.specs.declared.rules.Atom.{Atom}
 use Rattle.dx_model.specs.declared.rules.Cell.{Cell}
 use Rattle.dx_model.specs.Following.{frozen_text}

@@ -1,5 +1,5 @@
-use Rattle.dx_ports.proofs.Members.{item_in}
-use Rattle.dx_ports.proofs.Options.{some_left, none_left}
+use Rattle.dx_base.proofs.Members.{item_in}
+use Rattle.dx_base.proofs.Options.{some_left, none_left}
 use Rattle.dx_implies.proofs.Asked.{zip_more}
 use Rattle.dx_model.specs.Following.{frozen_text}
 use Rattle.dx_implies.specs.Asking.{SaysCell}

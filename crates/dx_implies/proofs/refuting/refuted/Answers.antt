@@ -1,6 +1,6 @@
 use Rattle.std.proofs.Common.{[], refl}
 use Rattle.std.proofs.lemmas.Result.{err_from_is_err_and}
-use Rattle.dx_ports.specs.Members.{here}
+use Rattle.dx_base.specs.Members.{here}
 use Rattle.dx_instance.specs.Stored.{facts, widths}
 use Rattle.dx_implies.proofs.Shown.{all_fit, clean_of, fits_of, indexed, made_follows, made_refused, made_refutes, made_within, plain_of, rule_concludes}
 use Rattle.dx_implies.proofs.refuting.refuted.Goals as goal

@@ -1,4 +1,4 @@
-use Rattle.dx_ports.proofs.Members.{in_at}
+use Rattle.dx_base.proofs.Members.{in_at}
 use Rattle.dx_instance.proofs.firsts.part_of.Goals as goal
 
 pub bounds-row-column : goal.bounds-row-column

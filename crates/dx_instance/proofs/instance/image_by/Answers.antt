@@ -1,7 +1,7 @@
 use Rattle.std.proofs.Common.{sym, ap, subst, arith, length, List, map}
 use Rattle.std.proofs.lemmas.List.{length-map}
 use Rattle.dx_model.specs.declared.values.Value.{Value}
-use Rattle.dx_ports.specs.Members.{Each}
+use Rattle.dx_base.specs.Members.{Each}
 use Rattle.dx_instance.specs.Cells.{NumberTable}
 use Rattle.dx_instance.specs.Shown.{NumberRowsFit, renumbered, shown_tables}
 use Rattle.dx_instance.specs.Stored.{IsSorting}

@@ -1,5 +1,5 @@
 use Rattle.std.proofs.Common.{ap, subst, sym, length, List}
-use Rattle.dx_ports.specs.Members.{Each}
+use Rattle.dx_base.specs.Members.{Each}
 use Rattle.dx_instance.specs.Cells.{NumberTable}
 use Rattle.dx_instance.specs.Shown.{NumberRowsFit, shown_tables}
 use Rattle.dx_instance.proofs.SortFacts.{if_ok, images_fit, same_sorting}

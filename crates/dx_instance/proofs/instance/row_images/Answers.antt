@@ -1,4 +1,4 @@
-use Rattle.dx_ports.proofs.Members.{in_at}
+use Rattle.dx_base.proofs.Members.{in_at}
 use Rattle.dx_instance.specs.Shown.{NumbersFit}
 use Rattle.std.proofs.Common.{subst, sym, length}
 use Rattle.dx_instance.specs.Cells.{NumberTable}

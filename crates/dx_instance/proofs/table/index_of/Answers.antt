@@ -1,6 +1,6 @@
 use Rattle.std.proofs.Common.{subst, sym}
-use Rattle.dx_ports.specs.Members.{◌∈◌}
-use Rattle.dx_ports.proofs.Members.{in_at}
+use Rattle.dx_base.specs.Members.{◌∈◌}
+use Rattle.dx_base.proofs.Members.{in_at}
 use Rattle.dx_instance.specs.declared.column_index.ColumnIndex.{ColumnIndex}
 use Rattle.dx_instance.proofs.table.index_of.Goals as goal
 

@@ -1,9 +1,9 @@
 use Rattle.std.proofs.Common.{refl, ◌∙◌, sym, subst, ℕ, List}
 use Rattle.std.proofs.lemmas.Bool.{false≢true, true≢false}
 use Rattle.std.proofs.lemmas.List.{take_all}
-use Rattle.dx_ports.specs.Members.{◌∈◌, Each}
-use Rattle.dx_ports.proofs.Members.{from_flat_map, item_in}
-use Rattle.dx_ports.proofs.Loops.{each_more}
+use Rattle.dx_base.specs.Members.{◌∈◌, Each}
+use Rattle.dx_base.proofs.Members.{from_flat_map, item_in}
+use Rattle.dx_base.proofs.Loops.{each_more}
 use Rattle.dx_joins.specs.declared.pattern.Pattern.{Pattern}
 use Rattle.dx_joins.specs.Joining.{variables_of_patterns}
 use Rattle.dx_joins.proofs.Patterns.{in_pattern}

@@ -1,5 +1,5 @@
 use Rattle.std.proofs.Common.{take}
-use Rattle.dx_ports.specs.Members.{Each, ◌∈◌}
+use Rattle.dx_base.specs.Members.{Each, ◌∈◌}
 use Rattle.dx_joins.specs.declared.pattern.Pattern.{Pattern}
 use Rattle.dx_joins.specs.Joining.{variables_of_patterns}
 use Rattle.dx_joins.proofs.apart.are_apart.Given as goal

@@ -1,8 +1,8 @@
 use Rattle.dx_instance.specs.Cells.{numbers_at}
 use Rattle.std.proofs.Common.{◌∙◌, ◌-◌, sym, ap, subst, arith, ℕ, List, [], length}
-use Rattle.dx_ports.specs.Members.{◌∈◌}
-use Rattle.dx_ports.proofs.Members.{in_at}
-use Rattle.dx_ports.proofs.Loops.{on_true}
+use Rattle.dx_base.specs.Members.{◌∈◌}
+use Rattle.dx_base.proofs.Members.{in_at}
+use Rattle.dx_base.proofs.Loops.{on_true}
 use Rattle.std.proofs.lemmas.Slice.Eq.{bytes_eq-Decides}
 use Rattle.dx_joins.proofs.collected.ends_with.Goals as goal
 

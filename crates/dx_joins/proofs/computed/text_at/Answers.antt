@@ -1,5 +1,5 @@
 use Rattle.std.proofs.Common.{◌∙◌, sym, ap, refl}
-use Rattle.dx_ports.specs.Members.{here}
+use Rattle.dx_base.specs.Members.{here}
 use Rattle.dx_joins.specs.Shown.{is_text}
 use Rattle.dx_joins.proofs.computed.text_at.Goals as goal
 

@@ -1,4 +1,4 @@
-use Rattle.dx_ports.proofs.Members.{in_at}
+use Rattle.dx_base.proofs.Members.{in_at}
 use Rattle.dx_joins.proofs.index.key_at.Goals as goal
 
 pub number_in-requires : goal.number_in-requires

@@ -1,7 +1,7 @@
 use Rattle.std.proofs.Common.{◌<◌, ℕ, arith, get_or}
 use Rattle.std.proofs.lemmas.List.{get_or_default}
-use Rattle.dx_ports.proofs.Loops.{each_more}
-use Rattle.dx_ports.proofs.Members.{each_all}
+use Rattle.dx_base.proofs.Loops.{each_more}
+use Rattle.dx_base.proofs.Members.{each_all}
 use Rattle.dx_joins.proofs.known.above.Goals as goal
 
 pub loop-variable-preserved : goal.loop-variable-preserved

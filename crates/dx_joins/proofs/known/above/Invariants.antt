@@ -1,5 +1,5 @@
 use Rattle.std.proofs.Common.{◌<◌, ◌≤◌, take}
-use Rattle.dx_ports.specs.Members.{Each}
+use Rattle.dx_base.specs.Members.{Each}
 use Rattle.dx_joins.proofs.known.above.Given as goal
 
 abbrev pub invariant-loop-variable : goal.invariant-loop-variable

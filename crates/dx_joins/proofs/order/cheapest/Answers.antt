@@ -1,4 +1,4 @@
-use Rattle.dx_ports.proofs.Loops.{each_item}
+use Rattle.dx_base.proofs.Loops.{each_item}
 use Rattle.dx_joins.specs.Planning.{FitPattern}
 use Rattle.dx_joins.proofs.order.cheapest.Goals as goal
 

@@ -1,4 +1,4 @@
-use Rattle.dx_ports.proofs.Members.{in_at}
+use Rattle.dx_base.proofs.Members.{in_at}
 use Rattle.dx_joins.proofs.pairs.agree.Goals as goal
 
 pub number_at-requires : goal.number_at-requires

@@ -1,8 +1,8 @@
 use Rattle.std.proofs.Common.{◌≡◌, ◌∙◌, sym, false, true, get_or}
 use Rattle.std.proofs.lemmas.Bool.{false≢true, true≢false}
 use Rattle.std.proofs.lemmas.List.{get_or_default}
-use Rattle.dx_ports.proofs.Members.{in_at}
-use Rattle.dx_ports.proofs.Loops.{each_more}
+use Rattle.dx_base.proofs.Members.{in_at}
+use Rattle.dx_base.proofs.Loops.{each_more}
 use Rattle.dx_joins.proofs.pairs.are_marked.Goals as goal
 
 pub bounds-marks-number : goal.bounds-marks-number

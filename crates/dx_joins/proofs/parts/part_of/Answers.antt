@@ -1,5 +1,5 @@
 use Rattle.std.proofs.Common.{ap, subst, arith, ℕ, List, inl, length}
-use Rattle.dx_ports.specs.Members.{◌∈◌}
+use Rattle.dx_base.specs.Members.{◌∈◌}
 use Rattle.dx_joins.specs.Products.{GivesRows}
 use Rattle.dx_joins.proofs.Products.{needed_there}
 use Rattle.dx_joins.proofs.parts.part_of.Goals as goal

@@ -1,5 +1,5 @@
 use Rattle.std.proofs.Common.{◌≡◌, ◌∙◌, ◌++◌, ap, subst, arith, ℕ, List, length}
-use Rattle.dx_ports.specs.Members.{◌∈◌}
+use Rattle.dx_base.specs.Members.{◌∈◌}
 use Rattle.dx_joins.specs.Products.{IsProduct}
 use Rattle.dx_joins.proofs.Products.{few_both, part_grows}
 use Rattle.dx_joins.proofs.parts.with_part.Goals as goal

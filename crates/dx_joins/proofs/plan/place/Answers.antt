@@ -1,5 +1,5 @@
 use Rattle.std.proofs.Common.{arith}
-use Rattle.dx_ports.proofs.Lists.{skip_listed, nothing_left}
+use Rattle.dx_base.proofs.Lists.{skip_listed, nothing_left}
 use Rattle.dx_joins.proofs.Places.{is_here, skip_same}
 use Rattle.dx_joins.proofs.plan.place.Goals as goal
 

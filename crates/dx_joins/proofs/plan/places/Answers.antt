@@ -1,4 +1,4 @@
-use Rattle.dx_ports.proofs.Members.{in_at}
+use Rattle.dx_base.proofs.Members.{in_at}
 use Rattle.dx_joins.proofs.plan.places.Goals as goal
 
 pub place-requires : goal.place-requires

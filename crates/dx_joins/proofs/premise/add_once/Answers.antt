@@ -1,6 +1,6 @@
 use Rattle.std.proofs.Common.{◌∙◌, sym, subst, List, ℕ}
 use Rattle.std.proofs.lemmas.Bool.{true≢false}
-use Rattle.dx_ports.specs.Members.{◌∈◌}
+use Rattle.dx_base.specs.Members.{◌∈◌}
 use Rattle.dx_joins.proofs.Patterns.{adds_nothing, adds_one}
 use Rattle.dx_joins.proofs.premise.add_once.Goals as goal
 

@@ -1,5 +1,5 @@
 use Rattle.std.proofs.Common.{◌≤◌, ℕ, take, length}
-use Rattle.dx_ports.specs.Members.{◌∈◌, ◌⊆◌, Distinct, Each}
+use Rattle.dx_base.specs.Members.{◌∈◌, ◌⊆◌, Distinct, Each}
 use Rattle.dx_joins.specs.Planning.{IsVariableNeeded}
 use Rattle.dx_joins.proofs.premise.needed.Given as goal
 

@@ -1,6 +1,6 @@
 use Rattle.std.proofs.Common.{◌≡◌, ◌∙◌, ◌-◌, ◌+◌, ◌++◌, ◌∷◌, [], ◌<◌, sym, ap, subst, arith, List, ℕ, length, take, drop, get_or}
 use Rattle.std.proofs.lemmas.List.{take_more, take_all, drop_more, length-drop}
-use Rattle.dx_ports.proofs.Members.{item_in}
+use Rattle.dx_base.proofs.Members.{item_in}
 use Rattle.dx_joins.specs.declared.pattern.Pattern.{Pattern}
 use Rattle.dx_joins.specs.Planning.{HoldsPartialMatches, StepsTo}
 use Rattle.dx_joins.proofs.Carrying.{carry_start, last_known, last_told, told_from, some_length}

@@ -1,5 +1,5 @@
 use Rattle.std.proofs.Common.{take}
-use Rattle.dx_ports.specs.Members.{Each, ◌∈◌}
+use Rattle.dx_base.specs.Members.{Each, ◌∈◌}
 use Rattle.dx_joins.specs.declared.pattern.Pattern.{Pattern}
 use Rattle.dx_joins.proofs.premise.stands_in.Given as goal
 

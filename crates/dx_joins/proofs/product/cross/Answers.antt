@@ -1,5 +1,5 @@
 use Rattle.std.proofs.Common.{◌⊎◌, subst, refl, arith, ℕ, List, [], length}
-use Rattle.dx_ports.specs.Members.{◌∈◌}
+use Rattle.dx_base.specs.Members.{◌∈◌}
 use Rattle.dx_joins.specs.Collecting.{Collection, CollectsRows, MoreThan}
 use Rattle.dx_joins.specs.Products.{Crosses, CrossesWith}
 use Rattle.dx_joins.proofs.ByPlace.{by_all, by_full, by_more}

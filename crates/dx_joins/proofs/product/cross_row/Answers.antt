@@ -1,5 +1,5 @@
 use Rattle.std.proofs.Common.{◌≡◌, ◌∙◌, ◌⊎◌, ◌++◌, ap, subst, arith, ℕ, List}
-use Rattle.dx_ports.specs.Members.{◌∈◌}
+use Rattle.dx_base.specs.Members.{◌∈◌}
 use Rattle.dx_joins.specs.Collecting.{MoreThan}
 use Rattle.dx_joins.specs.Looking.{numbers_at_places}
 use Rattle.dx_joins.proofs.ByPlace.{by_all, by_full}

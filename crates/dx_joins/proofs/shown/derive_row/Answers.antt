@@ -1,7 +1,7 @@
 use Rattle.std.proofs.Common.{◌≡◌, ◌∙◌, ◌++◌, [], ◌<◌, sym, ap, subst, arith, ℕ, List, length}
 use Rattle.std.specs.Prelude.{map, slice_index, slice_index_or}
 use Rattle.std.proofs.lemmas.List.{append-nil, length-map}
-use Rattle.dx_ports.specs.Members.{Each}
+use Rattle.dx_base.specs.Members.{Each}
 use Rattle.dx_joins.specs.Looking.{numbers_at_places}
 use Rattle.dx_joins.specs.Shown.{AreTexts, texts_of}
 use Rattle.dx_joins.proofs.Growing.{derive_length, derives_result, picked}

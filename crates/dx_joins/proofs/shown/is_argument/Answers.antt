@@ -1,9 +1,9 @@
 use Rattle.std.proofs.Common.{refl, ◌∙◌, sym, ℕ, subst, List}
 use Rattle.std.proofs.lemmas.Bool.{false≢true, true≢false}
 use Rattle.std.proofs.lemmas.List.{take_all}
-use Rattle.dx_ports.specs.Members.{◌∈◌}
-use Rattle.dx_ports.proofs.Loops.{each_more}
-use Rattle.dx_ports.proofs.Members.{item_in}
+use Rattle.dx_base.specs.Members.{◌∈◌}
+use Rattle.dx_base.proofs.Loops.{each_more}
+use Rattle.dx_base.proofs.Members.{item_in}
 use Rattle.dx_model.specs.declared.rules.Derived.{Derived}
 use Rattle.dx_joins.proofs.shown.is_argument.Goals as goal
 

@@ -1,6 +1,6 @@
 use Rattle.std.proofs.Common.{take}
 use Rattle.dx_model.specs.declared.rules.Derived.{Derived}
-use Rattle.dx_ports.specs.Members.{Each, ◌∈◌}
+use Rattle.dx_base.specs.Members.{Each, ◌∈◌}
 use Rattle.dx_joins.proofs.shown.is_argument.Given as goal
 
 abbrev pub invariant-loop-one : goal.invariant-loop-one

@@ -1,7 +1,7 @@
 use Rattle.std.proofs.Common.{◌∙◌, ◌+◌, ◌++◌, ◌∷◌, [], sym, ap, List, ℕ}
 use Rattle.std.specs.List.{range_with_len}
 use Rattle.std.proofs.lemmas.List.{append_assoc}
-use Rattle.dx_ports.proofs.Ranges.{range_more}
+use Rattle.dx_base.proofs.Ranges.{range_more}
 use Rattle.dx_joins.proofs.shown.names_of.Goals as goal
 
 pub loop-i-preserved : goal.loop-i-preserved

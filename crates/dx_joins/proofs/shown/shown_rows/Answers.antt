@@ -1,7 +1,7 @@
 use Rattle.std.proofs.Common.{◌∙◌, ◌<◌, ◌≤◌, sym, ap, subst, ℕ, List, length, []}
 use Rattle.std.proofs.lemmas.Bool.{eqb-true}
 use Rattle.std.proofs.lemmas.List.{nil_from_length}
-use Rattle.dx_ports.specs.Members.{◌∈◌, Each}
+use Rattle.dx_base.specs.Members.{◌∈◌, Each}
 use Rattle.dx_instance.specs.Stored.{facts, widths}
 use Rattle.dx_instance.specs.Shown.{shown_tables}
 use Rattle.dx_joins.specs.Shown.{IsMatchTuple, StandFor}

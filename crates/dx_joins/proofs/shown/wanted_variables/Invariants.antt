@@ -1,5 +1,5 @@
 use Rattle.std.proofs.Common.{◌<◌, ◌≤◌, ℕ, length}
-use Rattle.dx_ports.specs.Members.{Each, ◌∈◌}
+use Rattle.dx_base.specs.Members.{Each, ◌∈◌}
 use Rattle.dx_joins.specs.Derivations.{IsVariableWanted}
 use Rattle.dx_joins.proofs.shown.wanted_variables.Given as goal
 

@@ -1,6 +1,6 @@
 use Rattle.std.proofs.Common.{refl, sym}
-use Rattle.dx_ports.proofs.Members.{item_in}
-use Rattle.dx_ports.proofs.Options.{some_left, none_left}
+use Rattle.dx_base.proofs.Members.{item_in}
+use Rattle.dx_base.proofs.Options.{some_left, none_left}
 use Rattle.dx_judge.specs.Asking.{SaysTurned}
 use Rattle.dx_judge.proofs.Asked.{order_same, zip_more}
 use Rattle.dx_judge.proofs.asking.atoms_of.Goals as goal

@@ -1,7 +1,7 @@
 use Rattle.std.proofs.Common.{arith, subst}
-use Rattle.dx_ports.specs.Members.{◌∈◌}
-use Rattle.dx_ports.proofs.Members.{in_at, item_in}
-use Rattle.dx_ports.proofs.Options.{some_left, none_left}
+use Rattle.dx_base.specs.Members.{◌∈◌}
+use Rattle.dx_base.proofs.Members.{in_at, item_in}
+use Rattle.dx_base.proofs.Options.{some_left, none_left}
 use Rattle.dx_model.specs.declared.values.Value.{Value}
 use Rattle.dx_judge.specs.Asking.{SaysValue}
 use Rattle.dx_judge.proofs.Asked.{value_in, values_more}

@@ -1,6 +1,6 @@
 use Rattle.std.proofs.Common.{List, subst, sym}
-use Rattle.dx_ports.proofs.Loops.{all_so, each_item, each_more, not_so}
-use Rattle.dx_ports.proofs.Members.{item_in}
+use Rattle.dx_base.proofs.Loops.{all_so, each_item, each_more, not_so}
+use Rattle.dx_base.proofs.Members.{item_in}
 use Rattle.dx_instance.specs.Stored.{facts}
 use Rattle.dx_blocks.specs.declared.block.Block.{Block}
 use Rattle.dx_blocks.specs.Blocks.{AreBlocks}

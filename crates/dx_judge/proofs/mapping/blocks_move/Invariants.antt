@@ -1,5 +1,5 @@
 use Rattle.std.proofs.Common.{take}
-use Rattle.dx_ports.specs.Members.{Each}
+use Rattle.dx_base.specs.Members.{Each}
 use Rattle.dx_instance.specs.Stored.{facts}
 use Rattle.dx_blocks.specs.declared.block.Block.{Block}
 use Rattle.dx_judge.specs.Open.{CanMove}

@@ -1,6 +1,6 @@
 use Rattle.std.proofs.Common.{◌≡◌, ℕ, arith, length, rules, subst}
-use Rattle.dx_ports.specs.Members.{Each}
-use Rattle.dx_ports.proofs.Options.{some_left, none_of}
+use Rattle.dx_base.specs.Members.{Each}
+use Rattle.dx_base.proofs.Options.{some_left, none_of}
 use Rattle.dx_solver.specs.Questions.{FitsAtom}
 use Rattle.dx_judge.proofs.Asked.{known_nulls, none_moves, some_fit, some_move}
 use Rattle.dx_judge.proofs.Orders.{can_turn}

@@ -1,6 +1,6 @@
 use Rattle.std.proofs.Common.{◌∙◌, None, Some}
 use Rattle.std.proofs.lemmas.List.{length-map}
-use Rattle.dx_ports.proofs.Members.{item_in}
+use Rattle.dx_base.proofs.Members.{item_in}
 use Rattle.dx_model.specs.declared.matches.Places.{Places}
 use Rattle.dx_instance.specs.Stored.{facts}
 use Rattle.dx_model.specs.Matches.{rows_of_matches}

@@ -1,5 +1,5 @@
 use Rattle.std.proofs.Common.{◌∙◌, [], below_more, get_or}
-use Rattle.dx_ports.proofs.Members.{in_at}
+use Rattle.dx_base.proofs.Members.{in_at}
 use Rattle.dx_instance.specs.Stored.{facts}
 use Rattle.dx_judge.proofs.Said.{tuples_all}
 use Rattle.dx_judge.proofs.opening.first_tuple.Goals as goal

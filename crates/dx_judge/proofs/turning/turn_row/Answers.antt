@@ -1,5 +1,5 @@
 use Rattle.std.proofs.Common.{arith}
-use Rattle.dx_ports.proofs.Members.{in_at}
+use Rattle.dx_base.proofs.Members.{in_at}
 use Rattle.dx_judge.proofs.turning.turn_row.Goals as goal
 
 pub bounds-row-column : goal.bounds-row-column

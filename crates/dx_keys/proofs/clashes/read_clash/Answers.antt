@@ -1,4 +1,4 @@
-use Rattle.dx_ports.proofs.Members.{in_at}
+use Rattle.dx_base.proofs.Members.{in_at}
 use Rattle.dx_keys.proofs.clashes.read_clash.Goals as goal
 
 pub demand_row-requires : goal.demand_row-requires

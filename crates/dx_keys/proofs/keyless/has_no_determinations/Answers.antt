@@ -1,7 +1,7 @@
 use Rattle.std.proofs.Common.{◌≡◌, ◌<◌, ◌≤◌, [], length, arith, refl}
 use Rattle.std.proofs.lemmas.List.{get_or_default}
-use Rattle.dx_ports.proofs.Loops.{each_more, not_so}
-use Rattle.dx_ports.proofs.Members.{each_at, each_all}
+use Rattle.dx_base.proofs.Loops.{each_more, not_so}
+use Rattle.dx_base.proofs.Members.{each_at, each_all}
 use Rattle.dx_schema.specs.Tables.{TableOf, determinations_of, schema_table, tables_of}
 use Rattle.dx_keys.proofs.keyless.has_no_determinations.Goals as goal
 

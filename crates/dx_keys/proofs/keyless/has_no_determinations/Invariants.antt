@@ -1,5 +1,5 @@
 use Rattle.std.proofs.Common.{◌≡◌, [], take}
-use Rattle.dx_ports.specs.Members.{Each}
+use Rattle.dx_base.specs.Members.{Each}
 use Rattle.dx_schema.specs.Tables.{determinations_of, tables_of}
 use Rattle.dx_keys.proofs.keyless.has_no_determinations.Given as goal
 

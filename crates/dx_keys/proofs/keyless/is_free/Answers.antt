@@ -1,6 +1,6 @@
 use Rattle.std.proofs.Common.{◌∙◌, sym}
 use Rattle.std.proofs.lemmas.Bool.{false≢true}
-use Rattle.dx_ports.proofs.Lists.{not_empty}
+use Rattle.dx_base.proofs.Lists.{not_empty}
 use Rattle.dx_schema.specs.Tables.{schema_table}
 use Rattle.dx_keys.proofs.Unforced.{no_keys}
 use Rattle.dx_keys.proofs.keyless.is_free.Goals as goal

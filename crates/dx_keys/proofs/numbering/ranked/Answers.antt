@@ -1,5 +1,5 @@
 use Rattle.std.proofs.Common.{◌<◌, [], sym, subst, length, arith}
-use Rattle.dx_ports.proofs.Members.{in_at}
+use Rattle.dx_base.proofs.Members.{in_at}
 use Rattle.dx_instance.specs.Cells.{NumberTable}
 use Rattle.dx_instance.specs.Shown.{NumbersFit}
 use Rattle.dx_keys.proofs.numbering.ranked.Goals as goal

@@ -1,6 +1,6 @@
 use Rattle.std.proofs.Common.{length, sym, subst}
-use Rattle.dx_ports.specs.Members.{Each}
-use Rattle.dx_ports.proofs.Members.{in_at}
+use Rattle.dx_base.specs.Members.{Each}
+use Rattle.dx_base.proofs.Members.{in_at}
 use Rattle.dx_instance.specs.Cells.{NumberTable}
 use Rattle.dx_instance.specs.Shown.{NumberRowsFit}
 use Rattle.dx_keys.proofs.reading.at_roots.Goals as goal

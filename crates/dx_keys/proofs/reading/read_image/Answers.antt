@@ -1,5 +1,5 @@
 use Rattle.std.proofs.Common.{List, length, subst, sym}
-use Rattle.dx_ports.specs.Members.{Each}
+use Rattle.dx_base.specs.Members.{Each}
 use Rattle.dx_instance.specs.Cells.{NumberTable}
 use Rattle.dx_instance.specs.Shown.{NumberRowsFit}
 use Rattle.dx_instance.proofs.SortFacts.{images_fit, parts_rows}

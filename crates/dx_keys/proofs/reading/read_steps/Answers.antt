@@ -1,4 +1,4 @@
-use Rattle.dx_ports.proofs.Members.{in_at}
+use Rattle.dx_base.proofs.Members.{in_at}
 use Rattle.dx_keys.proofs.reading.read_steps.Goals as goal
 
 pub null_at-requires : goal.null_at-requires

@@ -1,6 +1,6 @@
 use Rattle.std.proofs.Common.{◌≡◌, map, take, drop}
 use Rattle.dx_funcs.specs.Judging.{tested}
-use Rattle.dx_ports.specs.Firsts.{first_of}
+use Rattle.dx_base.specs.Firsts.{first_of}
 use Rattle.dx_line_text.specs.Conditions.{condition_fault, condition_of}
 use Rattle.dx_line_text.proofs.conditions.read_conditions.Given as goal
 

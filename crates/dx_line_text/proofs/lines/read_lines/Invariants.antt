@@ -1,6 +1,6 @@
 use Rattle.std.proofs.Common.{◌≡◌, map, take, drop}
 use Rattle.dx_funcs.specs.Serving.{offered}
-use Rattle.dx_ports.specs.Firsts.{first_of}
+use Rattle.dx_base.specs.Firsts.{first_of}
 use Rattle.dx_line_text.specs.Naming.{line_fault, line_of_text}
 use Rattle.dx_line_text.proofs.lines.read_lines.Given as goal
 

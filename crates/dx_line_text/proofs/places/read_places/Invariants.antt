@@ -1,5 +1,5 @@
 use Rattle.std.proofs.Common.{◌≡◌, map, take, drop}
-use Rattle.dx_ports.specs.Firsts.{first_of}
+use Rattle.dx_base.specs.Firsts.{first_of}
 use Rattle.dx_line_text.specs.Naming.{place_fault, place_of_text}
 use Rattle.dx_line_text.proofs.places.read_places.Given as goal
 

@@ -1,5 +1,5 @@
 use Rattle.std.proofs.lemmas.Result.{err_from_is_err_and}
-use Rattle.dx_ports.proofs.Loops.{each_item}
+use Rattle.dx_base.proofs.Loops.{each_item}
 use Rattle.dx_tgd_text.proofs.RuleSteps.{loop_more}
 use Rattle.dx_query_text.specs.Naming.{PartHasFewCells, part_fault, part_of_text}
 use Rattle.dx_query_text.proofs.Steps.{part_at_fault}

@@ -1,5 +1,5 @@
 use Rattle.std.proofs.Common.{◌≡◌, map, take, drop}
-use Rattle.dx_ports.specs.Firsts.{first_of}
+use Rattle.dx_base.specs.Firsts.{first_of}
 use Rattle.dx_query_text.specs.Naming.{part_fault, part_of_text}
 use Rattle.dx_query_text.proofs.naming.named_query.Given as goal
 

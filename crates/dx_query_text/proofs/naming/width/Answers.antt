@@ -1,6 +1,6 @@
 use Rattle.std.proofs.Common.{◌<◌, arith, length, sym}
 use Rattle.std.proofs.lemmas.Bool.{eqb-false}
-use Rattle.dx_ports.proofs.Members.{in_at}
+use Rattle.dx_base.proofs.Members.{in_at}
 use Rattle.dx_query_text.proofs.naming.width.Goals as goal
 
 pub overflow_cast-result : goal.overflow_cast-result

@@ -1,4 +1,4 @@
-use Rattle.dx_ports.proofs.Loops.{each_item}
+use Rattle.dx_base.proofs.Loops.{each_item}
 use Rattle.dx_model.specs.declared.rules.Rule.{Rule}
 use Rattle.dx_funcs.specs.Serving.{offered}
 use Rattle.dx_rule_text.specs.Printed.{AreAtomsOf, AreListed}

@@ -1,6 +1,6 @@
 use Rattle.std.proofs.Common.{◌≡◌, map, drop}
 use Rattle.dx_schema.specs.Nodes.{node_view}
-use Rattle.dx_ports.specs.Firsts.{first_of}
+use Rattle.dx_base.specs.Firsts.{first_of}
 use Rattle.dx_schema.specs.Faults.{dep_fault}
 use Rattle.dx_schema.proofs.checks.deps_checked.Given as goal
 

@@ -1,7 +1,7 @@
 use Rattle.std.proofs.Common.{[], refl}
 use Rattle.std.proofs.lemmas.Bool.{false≢true}
 use Rattle.std.proofs.Common.{sym, ◌∙◌}
-use Rattle.dx_ports.proofs.Members.{same_equal}
+use Rattle.dx_base.proofs.Members.{same_equal}
 use Rattle.dx_script.proofs.Made.{created_names, made_here, made_nowhere, made_past, names_created, no_create, other_create}
 use Rattle.dx_script.proofs.before.is_created.Goals as goal
 use Rattle.dx_script.proofs.before.is_created.Goals.{in-Create+else-is, in_default}

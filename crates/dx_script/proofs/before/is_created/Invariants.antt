@@ -1,7 +1,7 @@
 use Rattle.std.proofs.Common.{drop, List, map, flat_map}
 use Rattle.std.specs.Prelude.{◌↔◌}
-use Rattle.dx_ports.specs.Members.{◌∈◌}
-use Rattle.dx_ports.specs.Texts.{Text}
+use Rattle.dx_base.specs.Members.{◌∈◌}
+use Rattle.dx_base.specs.Texts.{Text}
 use Rattle.dx_script.specs.Fits.{created}
 use Rattle.dx_script.proofs.Made.{created_names}
 use Rattle.dx_script.proofs.before.is_created.Given as goal

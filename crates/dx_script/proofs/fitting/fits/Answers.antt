@@ -1,5 +1,5 @@
 use Rattle.std.proofs.Common.{arith, refl}
-use Rattle.dx_ports.proofs.Loops.{not_so}
+use Rattle.dx_base.proofs.Loops.{not_so}
 use Rattle.dx_schema.specs.Names.{table_names_of}
 use Rattle.dx_funcs.specs.Serving.{offered}
 use Rattle.dx_script.proofs.FitsTest.{one_fits, script_fits, step_of}

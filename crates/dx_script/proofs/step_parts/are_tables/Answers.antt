@@ -1,5 +1,5 @@
-use Rattle.dx_ports.proofs.Loops.{not_so, each_more, each_item, all_so}
-use Rattle.dx_ports.specs.Members.{◌∈◌}
+use Rattle.dx_base.proofs.Loops.{not_so, each_more, each_item, all_so}
+use Rattle.dx_base.specs.Members.{◌∈◌}
 use Rattle.dx_schema.specs.Names.{table_names_of}
 use Rattle.dx_script.specs.Names.{table_names}
 use Rattle.dx_script.proofs.step_parts.are_tables.Goals as goal

@@ -1,6 +1,6 @@
 use Rattle.std.proofs.Common.{take}
-use Rattle.dx_ports.specs.Members.{Each}
-use Rattle.dx_ports.specs.Members.{◌∈◌}
+use Rattle.dx_base.specs.Members.{Each}
+use Rattle.dx_base.specs.Members.{◌∈◌}
 use Rattle.dx_schema.specs.Names.{table_names_of}
 use Rattle.dx_script.specs.Names.{table_names}
 use Rattle.dx_script.proofs.step_parts.are_tables.Given as goal

@@ -1,4 +1,4 @@
-use Rattle.dx_ports.proofs.Loops.{not_so, each_more, each_item, all_so}
+use Rattle.dx_base.proofs.Loops.{not_so, each_more, each_item, all_so}
 use Rattle.dx_schema.specs.Names.{table_names_of}
 use Rattle.dx_script.specs.Fits.{EqualFits}
 use Rattle.dx_script.proofs.step_parts.equals_fit.Goals as goal

@@ -1,5 +1,5 @@
 use Rattle.std.proofs.Common.{take}
-use Rattle.dx_ports.specs.Members.{Each}
+use Rattle.dx_base.specs.Members.{Each}
 use Rattle.dx_script.specs.Fits.{TestFits}
 use Rattle.dx_script.proofs.step_parts.tests_fit.Given as goal
 

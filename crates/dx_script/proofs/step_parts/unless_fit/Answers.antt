@@ -1,4 +1,4 @@
-use Rattle.dx_ports.proofs.Loops.{not_so, each_more, each_item, all_so}
+use Rattle.dx_base.proofs.Loops.{not_so, each_more, each_item, all_so}
 use Rattle.dx_script.specs.Fits.{UnlessFits}
 use Rattle.dx_script.proofs.step_parts.unless_fit.Goals as goal
 

@@ -1,5 +1,5 @@
 use Rattle.std.proofs.Common.{◌∙◌, ap, length, arith}
-use Rattle.dx_ports.proofs.Members.{item_in}
+use Rattle.dx_base.proofs.Members.{item_in}
 use Rattle.dx_schema.proofs.Facts.{atom_table}
 use Rattle.dx_scriptgen.proofs.Tables.{exported_few}
 use Rattle.dx_scriptgen.proofs.generate.push_all_inserts.Goals as goal

@@ -1,6 +1,6 @@
 use Rattle.std.proofs.Common.{◌∙◌, ◌++◌, ◌∷◌, [], ap}
 use Rattle.std.proofs.lemmas.List.{get_or_default}
-use Rattle.dx_ports.proofs.Members.{item_in}
+use Rattle.dx_base.proofs.Members.{item_in}
 use Rattle.dx_model.specs.Covers.{rule_at}
 use Rattle.dx_schema.specs.Names.{table_names_of}
 use Rattle.dx_funcs.specs.Serving.{offered}

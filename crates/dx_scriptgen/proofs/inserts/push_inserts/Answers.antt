@@ -1,5 +1,5 @@
 use Rattle.std.proofs.Common.{◌<◌, ◌∙◌, ap, sym, length}
-use Rattle.dx_ports.proofs.Loops.{each_item}
+use Rattle.dx_base.proofs.Loops.{each_item}
 use Rattle.dx_model.specs.declared.rules.Atom.{Atom}
 use Rattle.dx_schema.specs.Names.{TableNames, table_names_of}
 use Rattle.dx_schema.specs.Tables.{tables_of}

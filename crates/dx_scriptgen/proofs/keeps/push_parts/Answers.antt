@@ -1,7 +1,7 @@
 use Rattle.std.proofs.Common.{◌≡◌, ◌<◌, ◌∙◌, ◌++◌, ◌∷◌, [], ap, sym, subst, length, get_or, arith}
 use Rattle.std.proofs.lemmas.List.{get_or_default}
-use Rattle.dx_ports.specs.Members.{◌∈◌}
-use Rattle.dx_ports.proofs.Members.{in_at, item_in}
+use Rattle.dx_base.specs.Members.{◌∈◌}
+use Rattle.dx_base.proofs.Members.{in_at, item_in}
 use Rattle.dx_model.specs.Rules.{exported}
 use Rattle.dx_model.specs.Covers.{rule_at, used_maps}
 use Rattle.dx_script.specs.Rewritten.{tests_of, unless_of}

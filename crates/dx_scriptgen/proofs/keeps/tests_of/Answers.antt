@@ -1,4 +1,4 @@
-use Rattle.dx_ports.proofs.Loops.{each_item}
+use Rattle.dx_base.proofs.Loops.{each_item}
 use Rattle.dx_model.specs.Covers.{IsNoExistential}
 use Rattle.dx_scriptgen.proofs.keeps.tests_of.Goals as goal
 

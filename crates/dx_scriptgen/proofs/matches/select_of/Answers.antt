@@ -1,6 +1,6 @@
 use Rattle.std.proofs.Common.{◌≡◌, ◌<◌, ℕ, ◌-◌, ◌∙◌, sym, subst, length, get_or, arith}
-use Rattle.dx_ports.specs.Members.{◌∈◌}
-use Rattle.dx_ports.proofs.Members.{in_at}
+use Rattle.dx_base.specs.Members.{◌∈◌}
+use Rattle.dx_base.proofs.Members.{in_at}
 use Rattle.dx_funcs.specs.Serving.{offered}
 use Rattle.dx_model.specs.declared.rules.Derived.{Derived}
 use Rattle.dx_scriptgen.proofs.Selecting.{cell_selected, call_selected, code_listed}

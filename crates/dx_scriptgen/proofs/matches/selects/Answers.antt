@@ -1,6 +1,6 @@
 use Rattle.std.proofs.Common.{ℕ, ◌∙◌, subst, get_or}
-use Rattle.dx_ports.specs.Members.{◌∈◌}
-use Rattle.dx_ports.proofs.Members.{in_at}
+use Rattle.dx_base.specs.Members.{◌∈◌}
+use Rattle.dx_base.proofs.Members.{in_at}
 use Rattle.dx_model.specs.Rules.{exported}
 use Rattle.dx_model.proofs.Canonical.{exported_exactly}
 use Rattle.dx_scriptgen.proofs.matches.selects.Goals as goal

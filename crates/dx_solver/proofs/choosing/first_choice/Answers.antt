@@ -1,5 +1,5 @@
 use Rattle.std.proofs.Common.{◌<◌, arith, length}
-use Rattle.dx_ports.proofs.Loops.{each_more}
+use Rattle.dx_base.proofs.Loops.{each_more}
 use Rattle.dx_solver.specs.Domains.{IsBound}
 use Rattle.dx_solver.proofs.choosing.first_choice.Goals as goal
 

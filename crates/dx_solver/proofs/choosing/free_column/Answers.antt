@@ -1,6 +1,6 @@
 use Rattle.std.proofs.Common.{◌≤◌, ◌<◌, arith, get_or, length}
 use Rattle.std.proofs.lemmas.List.{get_or_default}
-use Rattle.dx_ports.proofs.Loops.{each_more}
+use Rattle.dx_base.proofs.Loops.{each_more}
 use Rattle.dx_solver.specs.declared.atom.Term.TheVariants.{Number}
 use Rattle.dx_solver.specs.Domains.{choice_count, term_at}
 use Rattle.dx_solver.proofs.choosing.free_column.Goals as goal

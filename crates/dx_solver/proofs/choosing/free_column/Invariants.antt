@@ -1,5 +1,5 @@
 use Rattle.std.proofs.Common.{◌≤◌, take}
-use Rattle.dx_ports.specs.Members.{Each}
+use Rattle.dx_base.specs.Members.{Each}
 use Rattle.dx_solver.specs.Domains.{choice_count}
 use Rattle.dx_solver.proofs.choosing.free_column.Given as goal
 

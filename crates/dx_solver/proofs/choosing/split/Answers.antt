@@ -1,5 +1,5 @@
 use Rattle.std.proofs.Common.{◌<◌, arith, length}
-use Rattle.dx_ports.specs.Members.{Each}
+use Rattle.dx_base.specs.Members.{Each}
 use Rattle.dx_solver.specs.Domains.{choice_count, term_at}
 use Rattle.dx_solver.specs.Questions.{HasImageRow}
 use Rattle.dx_solver.proofs.SearchFacts.{ok_weaken, weaken}

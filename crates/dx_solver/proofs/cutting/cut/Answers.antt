@@ -1,5 +1,5 @@
 use Rattle.std.proofs.Common.{◌≡◌, ◌∙◌, ℕ, arith, length, refl, subst, sym}
-use Rattle.dx_ports.proofs.Members.{contains_from_in}
+use Rattle.dx_base.proofs.Members.{contains_from_in}
 use Rattle.dx_solver.specs.declared.atom.PatternAtom.{PatternAtom}
 use Rattle.dx_solver.specs.Domains.{IsImageRow}
 use Rattle.dx_solver.specs.Questions.{FitsAtom}

@@ -1,5 +1,5 @@
 use Rattle.std.proofs.Common.{◌≡◌, ◌≤◌, ◌^◌, ℕ, length}
-use Rattle.dx_ports.specs.Members.{◌∈◌}
+use Rattle.dx_base.specs.Members.{◌∈◌}
 use Rattle.dx_solver.specs.Domains.{IsImageRow, Keeps, weight}
 use Rattle.dx_solver.proofs.cutting.cut.Given as goal
 

@@ -1,5 +1,5 @@
 use Rattle.std.proofs.Common.{◌∙◌, ◌^◌, ◌∷◌, [], ap, arith, length, refl}
-use Rattle.dx_ports.specs.Members.{here}
+use Rattle.dx_base.specs.Members.{here}
 use Rattle.std.proofs.lemmas.List.{length-map}
 use Rattle.dx_solver.specs.declared.domain.Domain.{Domain}
 use Rattle.dx_solver.specs.Domains.{domain_size}

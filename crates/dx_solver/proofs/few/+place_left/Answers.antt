@@ -1,5 +1,5 @@
 use Rattle.std.proofs.Common.{◌∙◌, ℕ, ap, arith, length, subst, sym}
-use Rattle.dx_ports.proofs.Members.{item_in}
+use Rattle.dx_base.proofs.Members.{item_in}
 use Rattle.dx_instance.specs.Shown.{numbers_of_table}
 use Rattle.dx_solver.specs.Domains.{IsImageRow}
 use Rattle.dx_solver.specs.Questions.{FitsAtom}

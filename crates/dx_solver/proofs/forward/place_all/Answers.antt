@@ -1,5 +1,5 @@
 use Rattle.std.proofs.Common.{ℕ, arith, subst, sym}
-use Rattle.dx_ports.proofs.Members.{item_in}
+use Rattle.dx_base.proofs.Members.{item_in}
 use Rattle.dx_solver.specs.Questions.{FitsAtom}
 use Rattle.dx_solver.proofs.forward.place_all.Goals as goal
 

@@ -1,6 +1,6 @@
 use Rattle.std.proofs.Common.{◌<◌, arith, length}
-use Rattle.dx_ports.proofs.Loops.{all_so, each_item, each_more, not_so}
-use Rattle.dx_ports.proofs.Members.{item_in}
+use Rattle.dx_base.proofs.Loops.{all_so, each_item, each_more, not_so}
+use Rattle.dx_base.proofs.Members.{item_in}
 use Rattle.dx_solver.specs.Questions.{HasImageRow, answered}
 use Rattle.dx_solver.proofs.judging.all_stand.Goals as goal
 

@@ -1,5 +1,5 @@
 use Rattle.std.proofs.Common.{take}
-use Rattle.dx_ports.specs.Members.{Each}
+use Rattle.dx_base.specs.Members.{Each}
 use Rattle.dx_solver.specs.Questions.{HasImageRow, answered}
 use Rattle.dx_solver.proofs.judging.all_stand.Given as goal
 

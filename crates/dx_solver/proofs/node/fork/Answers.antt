@@ -1,5 +1,5 @@
 use Rattle.std.proofs.Common.{◌∙◌, ◌^◌, ◌∷◌, ◌++◌, [], List, ap, append_assoc, arith, inl, inr, refl, subst}
-use Rattle.dx_ports.specs.Members.{here, there}
+use Rattle.dx_base.specs.Members.{here, there}
 use Rattle.dx_solver.specs.declared.node.Node.{Node}
 use Rattle.dx_solver.specs.declared.domain.Domain.{Domain}
 use Rattle.dx_solver.specs.Domains.{DomainHas, domain_size}

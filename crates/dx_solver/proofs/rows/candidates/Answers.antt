@@ -1,8 +1,8 @@
 use Rattle.std.proofs.Common.{◌≡◌, ◌<◌, ◌++◌, ◌∷◌, [], ℕ, List, ap, arith, length, refl, subst, sym}
 use Rattle.std.proofs.lemmas.List.{length-append}
-use Rattle.dx_ports.specs.Members.{◌∈◌, Each, here}
-use Rattle.dx_ports.proofs.Members.{in_left, in_right}
-use Rattle.dx_ports.proofs.Loops.{each_push}
+use Rattle.dx_base.specs.Members.{◌∈◌, Each, here}
+use Rattle.dx_base.proofs.Members.{in_left, in_right}
+use Rattle.dx_base.proofs.Loops.{each_push}
 use Rattle.dx_instance.specs.Shown.{numbers_of_table}
 use Rattle.dx_solver.specs.Domains.{IsImageRow}
 use Rattle.dx_solver.proofs.RowFacts.{place_all, place_more}

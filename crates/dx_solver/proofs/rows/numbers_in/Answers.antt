@@ -1,6 +1,6 @@
 use Rattle.std.proofs.Common.{◌<◌, arith, length}
 use Rattle.dx_instance.specs.Shown.{numbers_of_table}
-use Rattle.dx_ports.proofs.Members.{each_at}
+use Rattle.dx_base.proofs.Members.{each_at}
 use Rattle.dx_solver.proofs.rows.numbers_in.Goals as goal
 
 pub row-requires-clause-place : goal.row-requires-clause-place

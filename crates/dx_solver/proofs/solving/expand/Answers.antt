@@ -1,6 +1,6 @@
 use Rattle.std.proofs.Common.{◌∙◌, ℕ, subst, sym}
 use Rattle.std.proofs.lemmas.Bool.{false≢true}
-use Rattle.dx_ports.specs.Members.{Each}
+use Rattle.dx_base.specs.Members.{Each}
 use Rattle.dx_solver.specs.declared.node.Node.{Node}
 use Rattle.dx_solver.specs.Questions.{FitsAtom, Solves, HasImageRow}
 use Rattle.dx_solver.proofs.SearchFacts.{from_cut, nothing, ok_match}

@@ -1,5 +1,5 @@
 use Rattle.std.proofs.Common.{arith}
-use Rattle.dx_ports.proofs.Members.{item_in}
+use Rattle.dx_base.proofs.Members.{item_in}
 use Rattle.dx_solver.proofs.RowFacts.{image_of}
 use Rattle.dx_solver.proofs.solving.is_hopeless.Goals as goal
 

@@ -1,5 +1,5 @@
 use Rattle.std.proofs.Common.{◌≡◌, length}
-use Rattle.dx_ports.specs.Members.{Each}
+use Rattle.dx_base.specs.Members.{Each}
 use Rattle.dx_solver.specs.Domains.{worth}
 use Rattle.dx_solver.specs.Questions.{Solves}
 use Rattle.dx_solver.proofs.SearchFacts.{Covers}

@@ -1,5 +1,5 @@
 use Rattle.std.proofs.Common.{◌≡◌, ◌≤◌, ◌^◌, ℕ, length}
-use Rattle.dx_ports.specs.Members.{Each}
+use Rattle.dx_base.specs.Members.{Each}
 use Rattle.dx_solver.specs.Domains.{Keeps, weight}
 use Rattle.dx_solver.specs.Questions.{HasImageRow}
 use Rattle.dx_solver.proofs.spreading.spread.Given as goal

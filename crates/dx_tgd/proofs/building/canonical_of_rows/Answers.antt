@@ -1,6 +1,6 @@
 use Rattle.std.proofs.Common.{◌<◌, ◌-◌, ◌^◌, List, arith, subst, sym}
-use Rattle.dx_ports.proofs.Members.{item_in}
-use Rattle.dx_ports.proofs.Lists.{zip_long}
+use Rattle.dx_base.proofs.Members.{item_in}
+use Rattle.dx_base.proofs.Lists.{zip_long}
 use Rattle.dx_model.specs.declared.facts.Fact.{Fact}
 use Rattle.dx_model.specs.declared.values.Value.{Value}
 use Rattle.dx_model.specs.Rules.{canonical}

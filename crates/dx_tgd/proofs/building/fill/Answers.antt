@@ -1,4 +1,4 @@
-use Rattle.dx_ports.proofs.Members.{item_in}
+use Rattle.dx_base.proofs.Members.{item_in}
 use Rattle.dx_tgd.proofs.building.fill.Goals as goal
 
 pub number_at-requires : goal.number_at-requires

@@ -1,6 +1,6 @@
 use Rattle.std.proofs.Common.{length}
-use Rattle.dx_ports.specs.Members.{Each}
-use Rattle.dx_ports.proofs.Loops.{each_item}
+use Rattle.dx_base.specs.Members.{Each}
+use Rattle.dx_base.proofs.Loops.{each_item}
 use Rattle.dx_instance.specs.Cells.{IsOrderOf, NumberTable}
 use Rattle.dx_instance.specs.Shown.{AreBelow, renumbered}
 use Rattle.dx_tgd.proofs.Founds.{zip_more}

@@ -1,6 +1,6 @@
 use Rattle.std.proofs.Common.{◌∙◌, ◌≤◌, List, ap, arith, subst, sym}
 use Rattle.std.proofs.lemmas.Slice.Zip.{AllZip-long}
-use Rattle.dx_ports.specs.Members.{◌≈◌, Each}
+use Rattle.dx_base.specs.Members.{◌≈◌, Each}
 use Rattle.dx_model.specs.declared.values.Value.{Value}
 use Rattle.dx_funcs.specs.Serving.{offered}
 use Rattle.dx_model.specs.Rules.{AreRows, canonical}

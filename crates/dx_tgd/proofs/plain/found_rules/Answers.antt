@@ -1,7 +1,7 @@
 use Rattle.std.proofs.Common.{◌≡◌, ◌<◌, ◌≤◌, ◌/◌, ◌*◌, ℕ, List, arith, length, refl, subst}
 use Rattle.std.specs.Prelude.{map}
 use Rattle.std.proofs.lemmas.List.{length-map, take_all}
-use Rattle.dx_ports.proofs.Loops.{each_item}
+use Rattle.dx_base.proofs.Loops.{each_item}
 use Rattle.dx_funcs.specs.Serving.{offered}
 use Rattle.dx_model.specs.declared.rules.Rule.{Rule}
 use Rattle.dx_instance.specs.Shown.{shown_tables}

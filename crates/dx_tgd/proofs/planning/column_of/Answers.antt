@@ -1,5 +1,5 @@
 use Rattle.std.proofs.Common.{◌∙◌, sym}
-use Rattle.dx_ports.proofs.Lists.{skip_listed, nothing_left}
+use Rattle.dx_base.proofs.Lists.{skip_listed, nothing_left}
 use Rattle.dx_tgd.proofs.Saying.{skip_same}
 use Rattle.dx_tgd.proofs.Plans.{text_found}
 use Rattle.dx_tgd.proofs.planning.column_of.Goals as goal

@@ -1,5 +1,5 @@
 use Rattle.std.proofs.Common.{◌≡◌, drop, length}
-use Rattle.dx_ports.specs.Members.{◌∈◌}
+use Rattle.dx_base.specs.Members.{◌∈◌}
 use Rattle.dx_model.specs.Values.{Tuple}
 use Rattle.dx_model.specs.Rules.{text_of}
 use Rattle.dx_tgd.proofs.planning.column_of.Given as goal

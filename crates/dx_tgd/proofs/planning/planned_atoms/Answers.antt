@@ -3,8 +3,8 @@ use Rattle.std.specs.List.{AllZip}
 use Rattle.dx_instance.proofs.ShownFacts.{extends_both}
 use Rattle.dx_model.specs.declared.rules.Cell.{Cell}
 use Rattle.dx_model.specs.declared.rules.Cell.TheVariants.{Var}
-use Rattle.dx_ports.specs.Members.{◌∈◌}
-use Rattle.dx_ports.proofs.Members.{item_in}
+use Rattle.dx_base.specs.Members.{◌∈◌}
+use Rattle.dx_base.proofs.Members.{item_in}
 use Rattle.dx_tgd.specs.Planned.{IsCellPlan}
 use Rattle.dx_tgd.proofs.Plans.{atoms_more}
 use Rattle.dx_tgd.proofs.planning.planned_atoms.Goals as goal

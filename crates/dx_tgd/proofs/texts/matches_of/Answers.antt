@@ -1,5 +1,5 @@
-use Rattle.dx_ports.specs.Members.{Each}
-use Rattle.dx_ports.proofs.Loops.{each_item}
+use Rattle.dx_base.specs.Members.{Each}
+use Rattle.dx_base.proofs.Loops.{each_item}
 use Rattle.dx_instance.specs.Cells.{NumberTable}
 use Rattle.dx_joins.specs.Shown.{AreTexts}
 use Rattle.dx_tgd.proofs.texts.matches_of.Goals as goal

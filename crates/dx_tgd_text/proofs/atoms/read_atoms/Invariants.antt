@@ -1,5 +1,5 @@
 use Rattle.std.proofs.Common.{◌≡◌, map, take, drop}
-use Rattle.dx_ports.specs.Firsts.{first_of}
+use Rattle.dx_base.specs.Firsts.{first_of}
 use Rattle.dx_tgd_text.specs.Reading.{atom_fault, atom_of_text}
 use Rattle.dx_tgd_text.proofs.atoms.read_atoms.Given as goal
 

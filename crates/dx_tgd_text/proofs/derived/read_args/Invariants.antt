@@ -1,5 +1,5 @@
 use Rattle.std.proofs.Common.{◌≡◌, map, take, drop}
-use Rattle.dx_ports.specs.Firsts.{first_of}
+use Rattle.dx_base.specs.Firsts.{first_of}
 use Rattle.dx_tgd_text.specs.Reading.{arg_fault, arg_of}
 use Rattle.dx_tgd_text.proofs.derived.read_args.Given as goal
 

@@ -1,4 +1,4 @@
-use Rattle.dx_ports.proofs.Loops.{each_item}
+use Rattle.dx_base.proofs.Loops.{each_item}
 use Rattle.dx_funcs.specs.Serving.{offered}
 use Rattle.dx_line_text.proofs.Faults.{fault_none}
 use Rattle.dx_line_text.proofs.Fits.{all_read}

@@ -1,5 +1,5 @@
 use Rattle.std.proofs.Common.{◌≡◌, map, take, drop}
-use Rattle.dx_ports.specs.Firsts.{first_of}
+use Rattle.dx_base.specs.Firsts.{first_of}
 use Rattle.dx_funcs.specs.Serving.{offered}
 use Rattle.dx_tgd_text.specs.Reading.{rule_fault, rule_of_text}
 use Rattle.dx_tgd_text.proofs.rules.read_rules.Given as goal

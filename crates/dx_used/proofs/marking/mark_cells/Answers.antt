@@ -1,5 +1,5 @@
 use Rattle.std.proofs.Common.{arith}
-use Rattle.dx_ports.proofs.Members.{item_in}
+use Rattle.dx_base.proofs.Members.{item_in}
 use Rattle.dx_used.specs.Used.{AsksOfValue}
 use Rattle.dx_used.proofs.MarkFacts.{all_idle, asks_in, idle_item, keep_set, keep_trans, mark_none, mark_one, new_one, new_none, not_there}
 use Rattle.dx_used.proofs.marking.mark_cells.Goals.{then-column-marks+then-not-is_idle, else-column-marks, else-column-marks-via-then-column-marks+else-not-is_idle, else-column-marks-via-else-column-marks}

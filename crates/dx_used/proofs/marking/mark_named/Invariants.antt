@@ -1,5 +1,5 @@
 use Rattle.std.proofs.Common.{take}
-use Rattle.dx_ports.specs.Members.{Each}
+use Rattle.dx_base.specs.Members.{Each}
 use Rattle.dx_used.specs.Named.{IsNamed}
 use Rattle.dx_used.specs.Counting.{AreNewWhere, KeepMarks, ReadsNamed}
 use Rattle.dx_used.proofs.marking.mark_named.Given as goal

@@ -1,5 +1,5 @@
 use Rattle.std.proofs.Common.{◌≡◌, take}
-use Rattle.dx_ports.specs.Members.{Each}
+use Rattle.dx_base.specs.Members.{Each}
 use Rattle.dx_model.specs.Fitting.{IsRule}
 use Rattle.dx_used.specs.Used.{AreIdle, IsUsedBy}
 use Rattle.dx_used.specs.Counting.{AreNewWhere, KeepMarks}

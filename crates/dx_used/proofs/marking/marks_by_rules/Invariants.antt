@@ -1,5 +1,5 @@
 use Rattle.std.proofs.Common.{◌≡◌, length, take}
-use Rattle.dx_ports.specs.Members.{Each}
+use Rattle.dx_base.specs.Members.{Each}
 use Rattle.dx_model.specs.Fitting.{IsRule}
 use Rattle.dx_used.specs.Counting.{AreUsed, UsesOnlyOf}
 use Rattle.dx_used.proofs.marking.marks_by_rules.Given as goal

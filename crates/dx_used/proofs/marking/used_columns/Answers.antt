@@ -1,6 +1,6 @@
 use Rattle.std.proofs.Common.{◌∙◌, ap, arith, ◌++◌, ◌∷◌, [], length}
 use Rattle.std.proofs.lemmas.Grind.{common_steps}
-use Rattle.dx_ports.specs.Members.{Each}
+use Rattle.dx_base.specs.Members.{Each}
 use Rattle.dx_used.specs.Counting.{AreRead, ReadsNamed, UsesOnlyOf}
 use Rattle.dx_used.proofs.MarkFacts.{all_tables, all_widths, none_wide, tables_more, tables_read, width_more}
 use Rattle.dx_used.proofs.NamedFacts.{all_named, exact_marks, none_read}

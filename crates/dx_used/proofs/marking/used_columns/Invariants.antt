@@ -1,5 +1,5 @@
 use Rattle.std.proofs.Common.{◌≡◌, ◌<◌, ℕ, length, take}
-use Rattle.dx_ports.specs.Members.{Each}
+use Rattle.dx_base.specs.Members.{Each}
 use Rattle.dx_model.specs.Fitting.{IsRule}
 use Rattle.dx_used.specs.Counting.{AreRead, ReadsNamed, UsesOnlyOf}
 use Rattle.dx_used.specs.Used.{HaveWidths, marks_at}

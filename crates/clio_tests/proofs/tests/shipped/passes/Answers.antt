@@ -1,5 +1,5 @@
 use Rattle.std.proofs.Common.{arith}
-use Rattle.dx_ports.specs.Members.{here, there}
+use Rattle.dx_base.specs.Members.{here, there}
 use Rattle.clio_tests.proofs.tests.shipped.passes.Goals as goal
 
 pub check_row-requires : goal.check_row-requires

@@ -1,5 +1,5 @@
 use Rattle.std.proofs.Common.{◌≡◌, ap, arith, length}
-use Rattle.dx_ports.proofs.Members.{in_at}
+use Rattle.dx_base.proofs.Members.{in_at}
 use Rattle.dx_model.specs.Instances.{fact_moved, given}
 use Rattle.dx_blocks.specs.Numbered.{fact_of}
 use Rattle.dx_core.specs.Asking.{pairs_by}

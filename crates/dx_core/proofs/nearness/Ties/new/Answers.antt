@@ -1,4 +1,4 @@
-use Rattle.dx_ports.proofs.Members.{in_at}
+use Rattle.dx_base.proofs.Members.{in_at}
 use Rattle.dx_core.proofs.nearness.Ties.new.Goals as goal
 
 pub places_of_nulls-requires : goal.places_of_nulls-requires

@@ -1,6 +1,6 @@
 use Rattle.std.proofs.Common.{get_or, refl}
-use Rattle.dx_ports.specs.Members.{◌∈◌}
-use Rattle.dx_ports.proofs.Members.{in_at}
+use Rattle.dx_base.specs.Members.{◌∈◌}
+use Rattle.dx_base.proofs.Members.{in_at}
 use Rattle.dx_model.specs.Instances.{given}
 use Rattle.dx_blocks.specs.declared.numbered.At.{At}
 use Rattle.dx_blocks.specs.Numbered.{fact_of}

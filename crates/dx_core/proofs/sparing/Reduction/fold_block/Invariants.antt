@@ -1,5 +1,5 @@
 use Rattle.std.proofs.Common.{◌≡◌}
-use Rattle.dx_ports.specs.Members.{◌∈◌, ◌⊆◌}
+use Rattle.dx_base.specs.Members.{◌∈◌, ◌⊆◌}
 use Rattle.dx_model.specs.declared.facts.Fact.{Fact}
 use Rattle.dx_model.specs.Instances.{Moves, given}
 use Rattle.dx_blocks.specs.Numbered.{fact_of, shown_block}

@@ -1,6 +1,6 @@
 use Rattle.std.proofs.Common.{◌≡◌, ◌∙◌, Some, get_or}
 use Rattle.std.proofs.Math.ListN.{length-set}
-use Rattle.dx_ports.proofs.Members.{in_at}
+use Rattle.dx_base.proofs.Members.{in_at}
 use Rattle.dx_core.proofs.Spared.{is_at, known_more}
 use Rattle.dx_core.proofs.sparing.Reduction.keep_nulls.Goals as goal
 use Rattle.dx_core.proofs.sparing.Reduction.keep_nulls.Goals.{in-Ok, in_default}

@@ -1,7 +1,7 @@
 use Rattle.std.proofs.Common.{◌≡◌, ◌+◌, ℕ, List, drop, map, refl, subst}
 use Rattle.std.specs.Prelude.{IfSome, None, Option, Some}
-use Rattle.dx_ports.proofs.Loops.{each_item}
-use Rattle.dx_ports.proofs.Members.{from_map}
+use Rattle.dx_base.proofs.Loops.{each_item}
+use Rattle.dx_base.proofs.Members.{from_map}
 use Rattle.dx_model.specs.declared.values.NullId.{NullId}
 use Rattle.dx_model.specs.declared.facts.Fact.{Fact}
 use Rattle.dx_instance.specs.Shown.{NumberedInstance}

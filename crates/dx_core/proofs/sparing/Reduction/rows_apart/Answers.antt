@@ -1,5 +1,5 @@
 use Rattle.std.proofs.Common.{inr}
-use Rattle.dx_ports.proofs.Members.{in_at}
+use Rattle.dx_base.proofs.Members.{in_at}
 use Rattle.dx_blocks.specs.declared.numbered.At.{At}
 use Rattle.dx_core.specs.Left.{facts_left}
 use Rattle.dx_core.proofs.NeverMoved.{one_more_apart, only_itself}

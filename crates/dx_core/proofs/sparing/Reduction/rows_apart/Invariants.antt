@@ -1,4 +1,4 @@
-use Rattle.dx_ports.specs.Members.{Each}
+use Rattle.dx_base.specs.Members.{Each}
 use Rattle.dx_core.specs.NeverMoves.{IsApart}
 use Rattle.dx_core.specs.Left.{facts_left}
 use Rattle.dx_core.proofs.sparing.Reduction.rows_apart.Given as goal

@@ -1,4 +1,4 @@
-use Rattle.dx_ports.proofs.Members.{item_in}
+use Rattle.dx_base.proofs.Members.{item_in}
 use Rattle.dx_core.proofs.Near.{one_more, only_this}
 use Rattle.dx_core.proofs.sparing.Reduction.rows_near.Goals as goal
 use Rattle.dx_core.proofs.sparing.Reduction.rows_near.Goals.{in-Some+in_ok-push-2, in_default}

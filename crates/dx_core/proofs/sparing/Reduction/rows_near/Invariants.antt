@@ -1,4 +1,4 @@
-use Rattle.dx_ports.specs.Members.{◌∈◌, Each}
+use Rattle.dx_base.specs.Members.{◌∈◌, Each}
 use Rattle.dx_core.proofs.sparing.Reduction.rows_near.Given as goal
 
 abbrev pub invariant-loop-place : goal.invariant-loop-place

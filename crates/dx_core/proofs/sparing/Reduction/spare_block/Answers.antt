@@ -1,6 +1,6 @@
 use Rattle.std.proofs.Common.{◌∙◌, length, refl, sym}
 use Rattle.std.proofs.lemmas.Bool.{true≢false}
-use Rattle.dx_ports.proofs.Members.{in_at}
+use Rattle.dx_base.proofs.Members.{in_at}
 use Rattle.dx_model.proofs.Reduction.{reduct_itself, reduct_of_reduct}
 use Rattle.dx_core.specs.Left.{facts_left}
 use Rattle.dx_core.proofs.Spared.{all_tried, known_start, needed_row, none_tried, same_needed}

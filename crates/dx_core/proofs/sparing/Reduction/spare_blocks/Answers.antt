@@ -1,7 +1,7 @@
 use Rattle.std.proofs.Common.{◌≡◌, ◌∙◌, ◌++◌, ◌∷◌, [], List, Bool, ap, inl, map, refl, sym, subst}
 use Rattle.std.proofs.lemmas.List.{map-append}
-use Rattle.dx_ports.specs.Members.{Each}
-use Rattle.dx_ports.proofs.Lists.{none_of_length}
+use Rattle.dx_base.specs.Members.{Each}
+use Rattle.dx_base.proofs.Lists.{none_of_length}
 use Rattle.dx_model.proofs.Reduction.{reduct_of_reduct}
 use Rattle.dx_instance.specs.Shown.{NumberedInstance}
 use Rattle.dx_instance.specs.Stored.{facts}

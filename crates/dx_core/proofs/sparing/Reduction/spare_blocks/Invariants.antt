@@ -1,5 +1,5 @@
 use Rattle.std.proofs.Common.{◌≡◌, map, vec_len}
-use Rattle.dx_ports.specs.Members.{Each}
+use Rattle.dx_base.specs.Members.{Each}
 use Rattle.dx_model.specs.Blocks.{IsEquivalentPart}
 use Rattle.dx_instance.specs.Stored.{facts}
 use Rattle.dx_blocks.specs.Numbered.{shown_block}

@@ -1,6 +1,6 @@
 use Rattle.std.proofs.Common.{◌∙◌, ap, ◌++◌, ◌∷◌, []}
 use Rattle.std.specs.Prelude.{map}
-use Rattle.dx_ports.proofs.Members.{in_at}
+use Rattle.dx_base.proofs.Members.{in_at}
 use Rattle.dx_model.specs.Covers.{used_maps}
 use Rattle.dx_cover.proofs.Covering.{is_square, one_more, two_agree}
 use Rattle.dx_cover.proofs.covers.Covers.compute.Goals as goal

@@ -1,7 +1,7 @@
 use Rattle.std.proofs.Common.{◌∙◌, get_or, subst, sym}
 use Rattle.std.proofs.lemmas.List.{get_or_default}
-use Rattle.dx_ports.specs.Members.{◌∈◌}
-use Rattle.dx_ports.proofs.Members.{in_at}
+use Rattle.dx_base.specs.Members.{◌∈◌}
+use Rattle.dx_base.proofs.Members.{in_at}
 use Rattle.dx_model.proofs.Before.{place_folded}
 use Rattle.dx_cover_fold.specs.Matched.{matched_tuples}
 use Rattle.dx_cover_fold.proofs.FoldFacts.{none_folded, one_folded}

@@ -1,5 +1,5 @@
 use Rattle.std.proofs.Common.{◌<◌, [], length, ap, arith, sym, ◌∙◌}
-use Rattle.dx_ports.proofs.Members.{in_at}
+use Rattle.dx_base.proofs.Members.{in_at}
 use Rattle.dx_instance.specs.Cells.{NumberTable, numbers_at}
 use Rattle.dx_cover_fold.proofs.CoverFacts.{places_are}
 use Rattle.dx_cover_fold.proofs.matched.Matched.row.Goals as goal

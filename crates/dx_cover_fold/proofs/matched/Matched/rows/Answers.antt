@@ -1,6 +1,6 @@
 use Rattle.std.proofs.Common.{◌<◌, List, length, ap, subst, arith}
-use Rattle.dx_ports.specs.Members.{Each}
-use Rattle.dx_ports.proofs.Loops.{each_item}
+use Rattle.dx_base.specs.Members.{Each}
+use Rattle.dx_base.proofs.Loops.{each_item}
 use Rattle.dx_model.specs.declared.values.Value.{Value}
 use Rattle.dx_instance.specs.Cells.{NumberTable}
 use Rattle.dx_instance.specs.Shown.{NumberedInstance}

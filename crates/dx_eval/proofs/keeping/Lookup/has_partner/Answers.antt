@@ -1,6 +1,6 @@
 use Rattle.std.proofs.Common.{◌∙◌, ℕ, List, length, subst, sym}
-use Rattle.dx_ports.specs.Members.{◌∈◌}
-use Rattle.dx_ports.proofs.Loops.{not_so}
+use Rattle.dx_base.specs.Members.{◌∈◌}
+use Rattle.dx_base.proofs.Loops.{not_so}
 use Rattle.dx_eval.proofs.Partners.{own_within}
 use Rattle.dx_eval.proofs.keeping.Lookup.has_partner.Goals as goal
 

@@ -1,7 +1,7 @@
 use Rattle.std.proofs.Common.{◌∙◌, ap, List, ℕ}
 use Rattle.dx_eval.specs.Variables.{variable_of}
 use Rattle.dx_eval.proofs.Joined.{variable_low, variables_step}
-use Rattle.dx_ports.proofs.Loops.{each_item}
+use Rattle.dx_base.proofs.Loops.{each_item}
 use Rattle.dx_script.specs.declared.form.Equal.{Equal}
 use Rattle.dx_script.specs.Fits.{CellFits}
 use Rattle.dx_schema.specs.Names.{table_names_of}

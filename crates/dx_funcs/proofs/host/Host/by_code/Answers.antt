@@ -1,5 +1,5 @@
 use Rattle.std.proofs.Common.{◌≡◌}
-use Rattle.dx_ports.proofs.Loops.{each_more}
+use Rattle.dx_base.proofs.Loops.{each_more}
 use Rattle.dx_funcs.specs.declared.conversion.Conversion.{Conversion}
 use Rattle.dx_funcs.specs.Serving.{offered}
 use Rattle.dx_funcs.proofs.Named.{conversion_named}

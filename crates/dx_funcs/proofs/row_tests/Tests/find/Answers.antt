@@ -1,6 +1,6 @@
 use Rattle.std.proofs.Common.{◌≡◌, refl, sym, ◌∙◌}
 use Rattle.std.proofs.lemmas.Bool.{false≢true}
-use Rattle.dx_ports.proofs.Loops.{each_more}
+use Rattle.dx_base.proofs.Loops.{each_more}
 use Rattle.dx_funcs.specs.declared.row_test.RowTest.{RowTest}
 use Rattle.dx_funcs.specs.Judging.{tested}
 use Rattle.dx_funcs.proofs.Judged.{test_here, test_shown, test_nowhere}

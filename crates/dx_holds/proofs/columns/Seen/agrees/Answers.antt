@@ -1,6 +1,6 @@
 use Rattle.std.proofs.Common.{arith}
-use Rattle.dx_ports.proofs.Loops.{not_so}
-use Rattle.dx_ports.proofs.Members.{in_at}
+use Rattle.dx_base.proofs.Loops.{not_so}
+use Rattle.dx_base.proofs.Members.{in_at}
 use Rattle.dx_model.specs.Tables.{cell}
 use Rattle.dx_instance.specs.Places.{row_at, value_at}
 use Rattle.dx_holds.proofs.Agreeing.{agree_at, row_has_table}

@@ -1,6 +1,6 @@
 use Rattle.std.proofs.Common.{◌∙◌, ◌<◌, ◌^◌, [], arith, sym, length, get_or}
 use Rattle.std.proofs.lemmas.Bool.{true≢false}
-use Rattle.dx_ports.proofs.Members.{in_at, only_one}
+use Rattle.dx_base.proofs.Members.{in_at, only_one}
 use Rattle.dx_model.specs.Tables.{cell, values_in}
 use Rattle.dx_instance.specs.Stored.{rows_of, table_at}
 use Rattle.dx_instance.specs.Places.{row_at, value_at}

@@ -1,5 +1,5 @@
 use Rattle.std.proofs.Common.{arith}
-use Rattle.dx_ports.proofs.Loops.{each_more}
+use Rattle.dx_base.proofs.Loops.{each_more}
 use Rattle.dx_holds.specs.Rooms.{FitsRoom}
 use Rattle.dx_holds.proofs.Rooms.{after_least, fits_larger}
 use Rattle.dx_holds.proofs.room.Room.reserve.Goals as goal

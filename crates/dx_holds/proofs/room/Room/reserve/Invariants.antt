@@ -1,5 +1,5 @@
 use Rattle.std.proofs.Common.{take}
-use Rattle.dx_ports.specs.Members.{Each}
+use Rattle.dx_base.specs.Members.{Each}
 use Rattle.dx_holds.specs.Rooms.{FitsRoom}
 use Rattle.dx_holds.proofs.room.Room.reserve.Given as goal
 

@@ -1,7 +1,7 @@
 use Rattle.std.proofs.Common.{◌≡◌, ◌∙◌, ◌<◌, ◌-◌, List, suc, refl, sym, ap, subst, arith, length, get_or, rules}
 use Rattle.std.proofs.lemmas.List.{get_or_default}
-use Rattle.dx_ports.specs.Members.{◌∈◌}
-use Rattle.dx_ports.proofs.Members.{in_at}
+use Rattle.dx_base.specs.Members.{◌∈◌}
+use Rattle.dx_base.proofs.Members.{in_at}
 use Rattle.dx_hom.specs.declared.matching.Found.{Found}
 use Rattle.dx_hom.specs.Bound.{BindingState, bucket, found_at}
 use Rattle.dx_hom.specs.Narrowing.{found_nulls}

@@ -1,6 +1,6 @@
 use Rattle.std.proofs.Common.{◌∙◌, ◌+◌, ◌^◌, List, ℕ, arith, get_or, subst}
 use Rattle.std.proofs.lemmas.List.{take_all}
-use Rattle.dx_ports.specs.Members.{Each}
+use Rattle.dx_base.specs.Members.{Each}
 use Rattle.dx_instance.specs.Cells.{NumberTable}
 use Rattle.dx_instance.specs.Shown.{AreBelow}
 use Rattle.dx_instance.proofs.CellFacts.{below_one_more, rows_below}

@@ -1,5 +1,5 @@
 use Rattle.std.proofs.Common.{◌∙◌, sym, ap, subst, length, arith}
-use Rattle.dx_ports.specs.Members.{Each}
+use Rattle.dx_base.specs.Members.{Each}
 use Rattle.std.proofs.Common.{◌≡◌, List, ℕ}
 use Rattle.dx_instance.specs.Cells.{NumberTable}
 use Rattle.dx_instance.proofs.CellFacts.{length_rows, rows_wide}

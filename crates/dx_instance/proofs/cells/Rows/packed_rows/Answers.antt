@@ -1,7 +1,7 @@
 use Rattle.std.proofs.Common.{◌≡◌, ◌<◌, ◌∙◌, ◌^◌, List, ℕ, [], sym, ap, arith, length, map, subst, take}
 use Rattle.std.proofs.lemmas.List.{length-map, map_more, take_all}
-use Rattle.dx_ports.specs.Members.{◌∈◌, Each}
-use Rattle.dx_ports.proofs.Members.{in_at}
+use Rattle.dx_base.specs.Members.{◌∈◌, Each}
+use Rattle.dx_base.proofs.Members.{in_at}
 use Rattle.dx_instance.specs.Cells.{NumberTable, numbers_at}
 use Rattle.dx_instance.specs.Keys.{packed}
 use Rattle.dx_instance.proofs.CellFacts.{length_rows, rows_wide}

@@ -1,5 +1,5 @@
 use Rattle.std.proofs.Common.{subst, sym, arith, ℕ}
-use Rattle.dx_ports.specs.Members.{Each}
+use Rattle.dx_base.specs.Members.{Each}
 use Rattle.dx_instance.specs.Shown.{NumberRowsFit}
 use Rattle.dx_instance.proofs.SortFacts.{if_ok, ranks_show, same_sorting}
 use Rattle.dx_instance.proofs.instance.Instance.from_rows.Goals as goal

@@ -1,6 +1,6 @@
 use Rattle.std.proofs.Common.{◌≡◌, ◌∙◌, sym, ap, subst, arith, length, List, ℕ, map}
 use Rattle.std.proofs.lemmas.List.{length-map}
-use Rattle.dx_ports.specs.Members.{Each}
+use Rattle.dx_base.specs.Members.{Each}
 use Rattle.dx_instance.specs.Cells.{NumberTable}
 use Rattle.dx_instance.specs.Shown.{NumbersFit, NumberRowsFit, renumbered, shown_tables}
 use Rattle.dx_instance.specs.Stored.{IsSorting}

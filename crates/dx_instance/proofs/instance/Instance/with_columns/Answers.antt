@@ -1,7 +1,7 @@
 use Rattle.std.proofs.Common.{◌∙◌, ◌<◌, get_or, arith}
 use Rattle.std.proofs.Common.{sym}
 use Rattle.std.proofs.lemmas.Bool.{true≢false}
-use Rattle.dx_ports.proofs.Members.{in_at}
+use Rattle.dx_base.proofs.Members.{in_at}
 use Rattle.dx_instance.specs.Stored.{table_at}
 use Rattle.dx_instance.proofs.PlaceFacts.{at_has, few_read, next_value, none_further, none_more, value_known, width_read}
 use Rattle.dx_instance.proofs.instance.Instance.with_columns.Goals as goal

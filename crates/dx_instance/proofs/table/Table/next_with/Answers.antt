@@ -1,5 +1,5 @@
 use Rattle.std.proofs.Common.{◌≡◌}
-use Rattle.dx_ports.specs.Members.{◌∈◌}
+use Rattle.dx_base.specs.Members.{◌∈◌}
 use Rattle.dx_instance.proofs.PartFacts.{next_by}
 use Rattle.dx_instance.proofs.table.Table.next_with.Goals as goal
 

@@ -1,6 +1,6 @@
 use Rattle.std.proofs.Common.{subst, arith}
 use Rattle.dx_instance.proofs.SortFacts.{distinct_numbers}
-use Rattle.dx_ports.specs.Members.{◌∈◌}
+use Rattle.dx_base.specs.Members.{◌∈◌}
 use Rattle.dx_joins.specs.Collecting.{Collection, MoreThan}
 use Rattle.dx_joins.proofs.collected.Collected.finish.Goals as goal
 

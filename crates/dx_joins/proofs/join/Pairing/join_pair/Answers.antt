@@ -1,7 +1,7 @@
 use Rattle.std.proofs.Common.{◌∙◌, ◌++◌, arith, sym, ap, subst, ℕ, List}
 use Rattle.std.proofs.lemmas.Bool.{true≢false}
-use Rattle.dx_ports.specs.Members.{◌∈◌}
-use Rattle.dx_ports.proofs.Members.{in_right}
+use Rattle.dx_base.specs.Members.{◌∈◌}
+use Rattle.dx_base.proofs.Members.{in_right}
 use Rattle.dx_joins.specs.Looking.{numbers_at_places}
 use Rattle.dx_joins.proofs.Places.{places_within, joined_agree}
 use Rattle.dx_joins.proofs.Collections.{gains_nothing}

@@ -1,6 +1,6 @@
 use Rattle.std.proofs.Common.{◌≡◌, ◌∙◌, ◌⊎◌, ◌+◌, ◌%◌, ◌<◌, ap, subst, arith, ℕ, List, length}
 use Rattle.std.specs.Prelude.{slice_index}
-use Rattle.dx_ports.specs.Members.{◌∈◌}
+use Rattle.dx_base.specs.Members.{◌∈◌}
 use Rattle.dx_instance.specs.Shown.{numbers_of_table}
 use Rattle.dx_instance.specs.Cells.{row_key}
 use Rattle.dx_joins.specs.Collecting.{CollectsRows, MoreThan}

@@ -1,9 +1,9 @@
 use Rattle.std.proofs.Common.{refl, ◌∙◌, sym, subst, ℕ, List, get_or}
 use Rattle.std.proofs.lemmas.Bool.{false≢true, true≢false}
 use Rattle.std.proofs.lemmas.List.{get_or_default, take_all}
-use Rattle.dx_ports.specs.Members.{◌∈◌}
-use Rattle.dx_ports.proofs.Members.{in_at}
-use Rattle.dx_ports.proofs.Loops.{each_more}
+use Rattle.dx_base.specs.Members.{◌∈◌}
+use Rattle.dx_base.proofs.Members.{in_at}
+use Rattle.dx_base.proofs.Loops.{each_more}
 use Rattle.dx_joins.specs.Knowing.{IsKnown}
 use Rattle.dx_joins.proofs.known.Known.meets.Goals as goal
 

@@ -1,9 +1,9 @@
 use Rattle.std.proofs.Common.{◌≡◌, ◌∙◌, ◌++◌, ◌<◌, sym, subst, ap, arith, ℕ, List, get_or, length}
 use Rattle.std.proofs.lemmas.List.{get_or_default, length-map}
 use Rattle.std.specs.Prelude.{map, slice_index}
-use Rattle.dx_ports.specs.Members.{◌∈◌, ◌⊆◌, Distinct, Each}
-use Rattle.dx_ports.proofs.Members.{in_right}
-use Rattle.dx_ports.proofs.Loops.{each_push}
+use Rattle.dx_base.specs.Members.{◌∈◌, ◌⊆◌, Distinct, Each}
+use Rattle.dx_base.proofs.Members.{in_right}
+use Rattle.dx_base.proofs.Loops.{each_push}
 use Rattle.dx_joins.specs.Planning.{first_place}
 use Rattle.dx_joins.proofs.Places.{shared_more}
 use Rattle.dx_joins.proofs.plan.Plan.build.Goals as goal

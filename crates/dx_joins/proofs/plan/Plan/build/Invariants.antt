@@ -1,6 +1,6 @@
 use Rattle.std.proofs.Common.{◌≡◌, ◌<◌, length}
 use Rattle.std.specs.Prelude.{map, slice_index}
-use Rattle.dx_ports.specs.Members.{Each}
+use Rattle.dx_base.specs.Members.{Each}
 use Rattle.dx_joins.proofs.plan.Plan.build.Given as goal
 
 abbrev pub invariant-loop-column : goal.invariant-loop-column

@@ -2,7 +2,7 @@ use Rattle.std.proofs.Common.{◌≡◌, ◌+◌, ◌<◌, ◌^◌, ◌∷◌, [
 use Rattle.std.proofs.lemmas.Result.{on_ok_weaker}
 use Rattle.json.specs.Token.{begin_array, begin_object, end_array, end_object, key}
 use Rattle.serde_json.specs.Data.{array}
-use Rattle.dx_ports.proofs.Members.{in_at}
+use Rattle.dx_base.proofs.Members.{in_at}
 use Rattle.dx_model.specs.Tables.{cell}
 use Rattle.dx_schema.specs.Forest.{forest_size}
 use Rattle.dx_schema.proofs.Preorder.{forest_size-inner}

@@ -1,5 +1,5 @@
 use Rattle.std.proofs.Common.{◌≡◌, ◌<◌, length, arith}
-use Rattle.dx_ports.proofs.Loops.{each_item}
+use Rattle.dx_base.proofs.Loops.{each_item}
 use Rattle.dx_model.specs.declared.rules.Atom.{Atom}
 use Rattle.dx_schema.specs.Tables.{schema_table, tables_of}
 use Rattle.dx_scriptgen.proofs.Premises.{one_atom, more_cells, few_atoms}

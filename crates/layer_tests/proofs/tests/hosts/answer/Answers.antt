@@ -1,4 +1,4 @@
-use Rattle.dx_ports.proofs.Members.{in_map}
+use Rattle.dx_base.proofs.Members.{in_map}
 use Rattle.dx_funcs.specs.declared.conversion.Conversion.{Conversion}
 use Rattle.layer_tests.proofs.tests.hosts.answer.Goals as goal
 

@@ -6,8 +6,9 @@ ghost use Rattle.std.specs.Ordering.{nat_cmp};
 ghost use Rattle.std.specs.Cmp.Rules.{hashing};
 ghost use Rattle.std.specs.Hash as fed;
 ghost use Rattle.std.proofs.Common.{rules};
-ghost use Rattle.dx_ports.specs.declared.text.TextMade.TheVariants.{Memory};
+ghost use Rattle.dx_base.specs.declared.text.TextMade.TheVariants.{Memory};
 
+use crate::no_number_left;
 use std::alloc::{AllocError, Global};
 use std::cmp::Ordering;
 use std::fmt;
@@ -91,16 +92,14 @@ impl Text {
         ensures { IfOk result (λ t. t ≡ string_bytes string) }
     {
         let Ok(end) = u32::try_from(string.len()) else {
-            return Err(AllocError);
+            return Err(no_number_left(string.len() as u64));
         };
-        match Rc::new(alloc, string) {
-            Ok(buffer) => Ok(Text {
-                buffer,
-                start: 0,
-                end,
-            }),
-            Err(_) => Err(AllocError),
-        }
+        let buffer = Rc::new(alloc, string)?;
+        Ok(Text {
+            buffer,
+            start: 0,
+            end,
+        })
     }
 
     /// The part of a buffer from `start` up to `end`, two numbers of bytes. It takes no memory.

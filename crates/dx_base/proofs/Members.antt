@@ -2,7 +2,7 @@
 use Rattle.std.proofs.Common.{◌≡◌, ℕ, zero, suc, ◌<◌, List, [], ◌∷◌, ◌++◌, ◌⊎◌, inl, inr, refl, ap, subst, arith, length, get_or, Contains, ◌≤◌, take, sym, ◌∙◌}
 use Rattle.std.specs.Prelude.{map, flat_map}
 use Rattle.std.proofs.lemmas.List.{take_all}
-use Rattle.dx_ports.specs.Members.{◌∈◌, ◌≈◌, Each, here, there, Distinct, ◌⊆◌}
+use Rattle.dx_base.specs.Members.{◌∈◌, ◌≈◌, Each, here, there, Distinct, ◌⊆◌}
 
 pub in_map : {X Y : Type 0} (f : X → Y) {x : X} {xs : List X} → x ∈ xs → f x ∈ map f xs
 in_map f (here e) = here (ap f e)

@@ -1,8 +1,8 @@
 -- The first that is there: where none is, and what it is.
 use Rattle.std.proofs.Common.{◌≡◌, inl, inr, List, [], ◌∷◌, Option, Some, None, map, refl}
 use Rattle.std.specs.Prelude.{◌⊎◌}
-use Rattle.dx_ports.specs.Members.{◌∈◌, here, there}
-use Rattle.dx_ports.specs.Firsts.{first_of}
+use Rattle.dx_base.specs.Members.{◌∈◌, here, there}
+use Rattle.dx_base.specs.Firsts.{first_of}
 
 module _ {E : Type 0} where
   -- ---- none is there

@@ -4,8 +4,8 @@ use Rattle.std.specs.Prelude.{IsTrue, ◌↔◌, ◌||◌, Bool, true, false}
 use Rattle.std.specs.Bool.{OnTrue}
 use Rattle.std.proofs.lemmas.Bool.{false≢true, true≢false}
 use Rattle.std.proofs.lemmas.List.{take_more, take_all}
-use Rattle.dx_ports.specs.Members.{◌∈◌, here, there, Each}
-use Rattle.dx_ports.proofs.Members.{in_at, from_append}
+use Rattle.dx_base.specs.Members.{◌∈◌, here, there, Each}
+use Rattle.dx_base.proofs.Members.{in_at, from_append}
 
 -- a test that failed tells that the whole does not hold
 pub not_so : {b : Bool} {P Q : Type 0} → b ≡ false → (IsTrue b ↔ P) → (Q → P) → (IsTrue false ↔ Q)

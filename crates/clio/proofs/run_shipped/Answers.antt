@@ -1,0 +1,13 @@
+use Rattle.std.proofs.Common.{◌∙◌}
+use Rattle.clio.proofs.Exits.{exits, without_memory}
+use Rattle.clio.proofs.run_shipped.Goals as goal
+
+pub returns : goal.returns
+returns g c =
+    exits _ _ _ _ _ _ _ _ _ _ (c.build-host.ensures.offered ∙ c.in-Ok.ensures.list) (c.build-tests.ensures.tested ∙ c.in-Ok-shipped_tests.ensures.list) c.run_over.ensures
+
+pub returns-in_default : goal.returns-in_default
+returns-in_default g c = without_memory _ _ _ _ _ c.no_memory.ensures
+
+pub returns-in_default-shipped_tests : goal.returns-in_default-shipped_tests
+returns-in_default-shipped_tests g c = without_memory _ _ _ _ _ c.no_memory-in_default-shipped_tests.ensures

@@ -1,0 +1,4 @@
+pub mod Members
+pub mod Entries
+pub mod Firsts
+pub mod Texts
