@@ -1,4 +1,4 @@
--- What clio must write of this folder, worked out in SQL: `examples/work-out examples/blog` runs it on SQLite.
+-- What clio must write of this folder, worked out in SQL: `dev/work-out examples/blog` runs it on SQLite.
 --
 -- Persons, articles and topics come together from several rules, by keys. So each rule says what it knows about
 -- an object and a column, and where it knows nothing it has a null of its own, as docs/manual/output.md names them. Then the

@@ -1,4 +1,4 @@
--- What clio must write of this folder in core mode, worked out in SQL: `examples/work-out examples/packages` runs it on SQLite.
+-- What clio must write of this folder in core mode, worked out in SQL: `dev/work-out examples/packages` runs it on SQLite.
 --
 -- Keys make one thing of all that speaks of one: a section with its label, a person with an address, a source package or a unit with a
 -- name. Of the nulls that stand for it the least is left, that of the first rule and match.

@@ -1,4 +1,4 @@
--- What clio must write of this folder in core mode, worked out in SQL: `examples/work-out examples/warehouse` runs it on SQLite.
+-- What clio must write of this folder in core mode, worked out in SQL: `dev/work-out examples/warehouse` runs it on SQLite.
 --
 -- Shops and products come together from several rules, by keys. So each match says which objects it speaks of, and for
 -- each column that it knows nothing about it has a null of its own. The value of a column is the text that some match has

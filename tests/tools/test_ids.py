@@ -1,0 +1,271 @@
+"""clio-ids: the same thing gets the same number in the next run, on cases by hand and over random sources that grow."""
+import contextlib
+import json
+import os
+import pathlib
+import random
+import sqlite3
+import subprocess
+import sys
+import tempfile
+import unittest
+
+from trial import PROGRAM, TIMES, TOOLS, Trial
+
+from clio_tools.explain import program as explain_program
+from clio_tools.csv import read_table, record_text, records
+from clio_tools.explain.clashes import Clashes
+from clio_tools.ids.crosswalk import Crosswalk
+from clio_tools.ids.numbering import number
+from clio_tools.mapping.text import read_sets
+from random_cases import random_case
+
+SHOP = """mapping 1;
+source { set sale { id, buyer, note; } }
+target {
+  set customer { cid, cname, phone; key (cid); key (cname); }
+  set orders { oid, note, cid; key (oid); ref (cid) -> customer (cid); }
+}
+line sale.id -> orders.oid;
+line sale.note -> orders.note;
+line sale.buyer -> customer.cname;
+"""
+NESTED = """mapping 1;
+source { set emp { name, dept; } }
+target { set unit { uname, boss; key (uname); set staff { sid, sname; key (sname); } } }
+rule emp(n, d) -> unit(u, d, b), staff(u, s, n);
+"""
+HOSTILE = ["", "?", "?0.0.0", "\\.", "\0", "a\nb", "a\r\nb", '"', "a,b", "é", "\ufeff", "'", "17", "{", "x" * 5_000_000]
+KINDS = {"rules": 6, "mixed": 4, "keyed": 14}
+
+
+class Ids(Trial):
+    """Runs of the tool as a user does them."""
+
+    def exchange(self, mapping, **tables):
+        """One run of clio."""
+        self.file("mapping.clio", mapping)
+        for name, rows in tables.items():
+            self.file(f"{name}.csv", "".join(map(record_text, rows)))
+        self.assertEqual(self.clio("exchange")[0], 0)
+
+    def sales(self, *rows):
+        self.exchange(SHOP, sale=[["id", "buyer", "note"], *rows])
+
+    def table(self, name, columns):
+        return list(read_table(self.folder / "out" / f"{name}.csv", columns))
+
+    def customers(self):
+        return {row[1]: row[0] for row in self.table("customer", ["cid", "cname", "phone"])}
+
+    def test_grown(self):
+        self.sales(["2", "ann", ""], ["3", "bob", ""])
+        self.assertEqual(self.printed("clio-ids", "ids.db"), "known 0\nnew 4\n")
+        before = self.customers()
+        self.assertEqual(sorted(before.values()), ["1", "2"])
+        self.sales(["0", "aaa", ""], ["1", "bob", ""], ["2", "ann", ""], ["3", "bob", ""])
+        self.assertEqual(self.printed("clio-ids", "ids.db"), "known 4\nnew 2\n")
+        after = self.customers()
+        self.assertEqual({name: after[name] for name in before}, before)
+        self.assertEqual({row[0]: row[2] for row in self.table("orders", ["oid", "note", "cid"])}["1"], before["bob"])
+        self.assertEqual(len(set(after.values())), 3)
+
+    def test_another_thing(self):
+        """A row that comes to refer to another customer gives it no number that was one's."""
+        self.sales(["1", "ann", ""])
+        self.printed("clio-ids", "ids.db")
+        before = self.customers()
+        self.sales(["1", "zed", ""])
+        self.printed("clio-ids", "ids.db")
+        self.assertNotEqual(self.customers()["zed"], before["ann"])
+        self.sales(["1", "ann", ""], ["2", "zed", ""])
+        self.printed("clio-ids", "ids.db")
+        self.assertEqual(self.customers()["ann"], before["ann"])
+
+    def test_other_mapping(self):
+        """A rule before the others changes the names of all nulls, and no number."""
+        self.sales(["1", "ann", ""], ["2", "bob", ""])
+        self.printed("clio-ids", "ids.db")
+        before = self.customers()
+        self.exchange(SHOP.replace("source { ", "source { set a { x; } ").replace("target {", "target { set b { x, y; }") + "line a.x -> b.x;", a=[["x"], ["1"]])
+        self.printed("clio-ids", "ids.db")
+        self.assertEqual(self.customers(), before)
+
+    def test_equal_rules(self):
+        """Two rules with one text make two things."""
+        mapping = "mapping 1; source { set a { x; } } target { set t { id, x; key (id); } } " + "rule a(x) where y = trim(x) -> t(i, y);" * 2
+        self.exchange(mapping, a=[["x"], ["p"]])
+        self.printed("clio-ids", "ids.db")
+        before = self.table("t", ["id", "x"])
+        self.exchange(mapping, a=[["x"], ["o"], ["p"]])
+        self.printed("clio-ids", "ids.db")
+        self.assertEqual([row for row in self.table("t", ["id", "x"]) if row[1] == "p"], before)
+        self.assertEqual(len({row[0] for row in self.table("t", ["id", "x"])}), 4)
+
+    def test_twice(self):
+        self.sales(["1", "ann", ""])
+        self.printed("clio-ids", "ids.db")
+        written = {path.name: path.read_bytes() for path in (self.folder / "out").iterdir()}
+        status, out, said = self.tool("clio-ids", "ids.db")
+        self.assertEqual((status, out), (0, ""), said)
+        self.assertIn("numbers already", said)
+        self.assertEqual({path.name: path.read_bytes() for path in (self.folder / "out").iterdir()}, written)
+
+    def test_hostile_texts(self):
+        rows = [[str(place), text, text] for place, text in enumerate(HOSTILE)]
+        self.sales(*rows)
+        self.printed("clio-ids", "ids.db")
+        before = self.customers()
+        self.assertEqual({name[1:] if name.startswith("?") else name for name in before}, set(HOSTILE))
+        self.sales(["99", "\x01", ""], *rows[::-1])
+        self.printed("clio-ids", "ids.db")
+        after = self.customers()
+        self.assertEqual({name: after[name] for name in before}, before)
+
+    def test_nested(self):
+        self.exchange(NESTED, emp=[["name", "dept"], ["ann", "toys"], ["bob", "toys"], ["ann", "books"]])
+        self.assertEqual(self.clio("exchange", "--nested")[0], 0)
+        self.printed("clio-ids", "ids.db", "--nested")
+        units = {row[1]: row[0] for row in self.table("unit", ["#id", "uname", "boss"])}
+        staff = {(row[0], row[2]) for row in self.table("staff", ["#up", "sid", "sname"])}
+        self.assertEqual(staff, {(units["toys"], "ann"), (units["toys"], "bob"), (units["books"], "ann")})
+        document = json.loads((self.folder / "out" / "unit.json").read_text())
+        bosses = {row[1]: row[2] for row in self.table("unit", ["#id", "uname", "boss"])}
+        self.assertEqual({one["uname"]: one["boss"] for one in document}, bosses)
+        self.assertTrue(all(boss.startswith("?999.0.") for boss in bosses.values()))
+
+    def test_columns(self):
+        self.sales(["1", "ann", ""])
+        self.printed("clio-ids", "ids.db", "--keep", "customer.cid", "--keep", "orders.cid", "--number", "customer.phone")
+        self.assertRegex(self.customers()["ann"], r"\?999\.0\.\d+")
+        self.assertRegex(self.table("customer", ["cid", "cname", "phone"])[0][2], r"\d+")
+        self.refused("clio-ids", "ids.db", "--keep", "customer.nothing", why="no column customer.nothing")
+
+    def test_refusals(self):
+        self.file("mapping.clio", SHOP)
+        self.refused("clio-ids", "ids.db", why="out/nulls.csv is missing")
+        self.assertFalse((self.folder / "ids.db").exists())
+        self.sales(["1", "ann", ""])
+        self.refused("clio-ids", why="usage: ")
+        self.refused("clio-ids", "ids.db", "--other", why="usage: ")
+        self.file("text.db", "no database, but a text that is long enough to be looked at as one\n" * 20)
+        self.refused("clio-ids", "text.db", why="text.db: file is not a database")
+        sqlite3.connect(self.folder / "other.db").executescript("CREATE TABLE t (x);")
+        self.refused("clio-ids", "other.db", why="no crosswalk")
+        fresh = (self.folder / "out" / "orders.csv").read_bytes()
+        self.printed("clio-ids", "ids.db")
+        self.refused("clio-ids", "new.db", why="out/nulls.csv is not of the run in which new.db gave them")
+        self.file("out/orders.csv", fresh)
+        self.refused("clio-ids", "ids.db", why="out/orders.csv is not of the run")
+
+    def test_no_room(self):
+        """A file that can't grow: nothing is changed, and no crosswalk is left that has nothing."""
+        self.sales(["1", "ann", ""])
+        before = {path.name: path.read_bytes() for path in (self.folder / "out").iterdir()}
+        for size in 1, 20:
+            with self.subTest(size):
+                done = subprocess.run(["bash", "-c", f'ulimit -f {size}; exec "$0" -B "$1" ids.db', sys.executable, TOOLS / "clio-ids"], cwd=self.folder, capture_output=True, check=False)
+                self.assertEqual((done.returncode, done.stdout), (2, b""))
+                self.assertEqual(done.stderr, b"clio-ids: ids.db: disk I/O error\n")
+                self.assertEqual({path.name: path.read_bytes() for path in (self.folder / "out").iterdir()}, before)
+                self.assertFalse((self.folder / "ids.db").exists())
+
+    def test_files_of_two_runs(self):
+        for name, content, why in [("customer.csv", "cid,cname,phone\n", "in no table"), ("customer.csv", "cid,cname,phone\n?x,ann,\n", "none that clio writes"),
+                                   ("rules.txt", "", "0 rules"), ("orders.csv", "oid,note\n", "the header is"), ("orders.csv", "oid,note,cid\n1\n", "record 1 has 1")]:
+            self.sales(["1", "ann", ""])
+            self.file(f"out/{name}", content)
+            if name == "customer.csv" and "?x" not in content:
+                self.file("out/orders.csv", "oid,note,cid\n")
+            self.refused("clio-ids", "ids.db", why=why)
+
+    def test_numerals(self):
+        """A number is given that is no text of the column; a text that is the number of a thing is refused."""
+        mapping = "mapping 1; source { set a { x; } set b { x; } } target { set t { id, x; key (id); key (x); } } rule a(x) -> t(i, x); rule b(i) -> t(i, y);"
+        self.exchange(mapping, a=[["x"], ["p"]], b=[["x"], ["1"]])
+        self.printed("clio-ids", "ids.db", "--number", "t.id")
+        given = {row[1]: row[0] for row in self.table("t", ["id", "x"])}["p"]
+        self.assertIn(given, ["2", "3"])
+        self.exchange(mapping, a=[["x"], ["p"]], b=[["x"], [given]])
+        self.refused("clio-ids", "ids.db", why=f"has the text {given} in column id, and {given} is the number of another thing")
+
+
+class Grown(unittest.TestCase):
+    """Random sources, of which a part comes first: what the rules make for one match is the same thing in both runs."""
+
+    @contextlib.contextmanager
+    def there(self):
+        before = os.getcwd()
+        with tempfile.TemporaryDirectory() as name:
+            os.chdir(name)
+            try:
+                yield
+            finally:
+                os.chdir(before)
+
+    def test_random(self):
+        explain_program.program, kept = lambda: PROGRAM, explain_program.program
+        self.addCleanup(setattr, explain_program, "program", kept)
+        compared = 0
+        for kind, most in KINDS.items():
+            for count in range(most * TIMES):
+                with self.subTest(f"{kind} {count}"), self.there():
+                    choice = random.Random(f"ids {kind} {count}")
+                    compared += self.grow(choice, random_case(choice, kind).files)
+        self.assertGreater(compared, 50)
+
+    def grow(self, choice, files):
+        """Runs on a part of the rows and then on all; answers how many nulls were compared."""
+        for name, content in files.items():
+            pathlib.Path(name).write_text(part_of(choice, name, content), encoding="utf-8", newline="")
+        first = self.run_once()
+        for name, content in files.items():
+            pathlib.Path(name).write_text(content, encoding="utf-8", newline="")
+        second = self.run_once()
+        if first is None or second is None:
+            return 0
+        things = {}
+        for term, thing in second.items():
+            things.setdefault(thing, set()).update({first[term]} if term in first else ())
+        for thing, before in things.items():
+            if before:
+                self.assertIn(thing, before)
+            else:
+                self.assertNotIn(thing, first.values())
+        return sum(map(bool, things.values()))
+
+    def run_once(self):
+        """The number of each null that the rules make, by its rule, variable and texts; nothing if clio refuses the case."""
+        if subprocess.run([PROGRAM, "exchange"], capture_output=True, check=False).returncode:
+            return None
+        content = pathlib.Path("mapping.clio").read_bytes()
+        mapping, printed = explain_program.mapping_of(content)
+        found = Clashes(mapping, printed)
+        crosswalk = Crosswalk("ids.db")
+        naming = number(read_sets(content.decode())["target"], crosswalk, {}, False)
+        crosswalk.close()
+        numbers = naming.by_name()
+        self.assertEqual(len(set(numbers.values())), len(numbers))
+        things = {}
+        for rule, matches in enumerate(found.matches):
+            variables = {cell.content for cell in mapping.rules[rule].conclusion_cells() if cell.kind == "existential"}
+            for place, texts in enumerate(matches.places()):
+                for variable in variables:
+                    value = found.chase.value((rule, variable, place))
+                    if isinstance(value, tuple):
+                        things[printed[rule], printed[:rule].count(printed[rule]), variable, texts] = numbers["?%d.%d.%d" % value]
+        return things
+
+
+def part_of(choice, name, content):
+    """Some of the rows of a table, or of the objects of a document."""
+    if name.endswith(".json"):
+        return json.dumps([one for one in json.loads(content.removeprefix("\ufeff")) if choice.random() < .6])
+    if name.endswith(".csv"):
+        entries = [fields for _, fields in records(content.encode())]
+        return "".join(record_text(fields) for place, fields in enumerate(entries) if not place or choice.random() < .6)
+    return content
+
+
+if __name__ == "__main__":
+    unittest.main()

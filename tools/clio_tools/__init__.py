@@ -1,0 +1,1 @@
+"""The tools beside clio, a folder for each, and what they have in common."""

@@ -1,0 +1,1 @@
+"""The databases that tools read and write."""

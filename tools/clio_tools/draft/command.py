@@ -1,0 +1,132 @@
+"""Prints one side of a mapping text from a database, from files or from a document, and writes the files that it reads.
+
+    clio-draft sqlite FILE [OPTION ..]
+    clio-draft postgres CONNINFO [SCHEMA] [OPTION ..]
+    clio-draft csv FOLDER [--delimiter SIGN] [OPTION ..]
+    clio-draft json FILE [OPTION ..]
+
+The text has the tables with their columns, keys and refs, as the catalog of the database has them, or the headers of the files, or the members of the
+objects. A name that is no word of a mapping text becomes one; a comment says which. What can't be said stands as a comment with the reason: a ref of a table
+to itself, or one that closes a circle; a table with more than 64 columns; a column of bytes. Two sides and some lines make a mapping:
+
+    (echo 'mapping 1;'; clio-draft sqlite old.db --data .; clio-draft sqlite new.db --side target; cat lines) > mapping.clio
+
+OPTIONS
+`--side target` prints the target, of which no data is read; `--side source` is the default.
+
+`--data FOLDER` writes the source's files into the folder, as clio reads them: NULL as the empty text, numbers as their digits. Remarks
+on standard error say what a reader should know: NULL beside empty texts in a column, rows that a ref doesn't match, a limit that is passed.
+
+`--mapping FILE` writes the data for the sets that a mapping text declares, with the columns in their order, and prints nothing. So a file with
+its columns in another order, or a database with more tables, is read by a mapping that is there.
+
+`--delimiter SIGN` is the sign between the fields of the files: a single one, or tab, comma, semicolon or pipe. It is a comma if it is left out.
+
+PLACES
+SQLite is read by Python's own module, in one transaction. PostgreSQL is read by `psql`: CONNINFO is what `psql -d` takes (a name of a
+database, a URI, `host=.. dbname=..`), and SCHEMA is public if it is left out. Views, and parts of partitioned tables, are no tables here.
+
+A folder has a table in each file .csv or .tsv. A quote that is never closed, text after a closing quote, and a record of another width than the header are refused.
+
+A document is an array of objects, or an object of such arrays, or has an object in each line. Flat objects become CSV. An array in an object
+is an inner set, also one of single values (with the column `value`); the members of an object in an object are columns `member_column`. A fraction becomes its text.
+
+This tool is not proved; its tests try it, and dev/check does so on PostgreSQL.
+"""
+import argparse
+import pathlib
+
+from clio_tools.draft import delimited, document, postgres, sqlite
+from clio_tools.program import Refused, remark, run
+from clio_tools.draft.data import Written
+from clio_tools.draft.model import Side, find_set
+from clio_tools.draft.names import shown
+from clio_tools.draft.text import side_text
+from clio_tools.mapping.text import read_sets
+
+
+def words_of(words):
+    parser = argparse.ArgumentParser(prog="clio-draft", description="Prints one side of a mapping text from what is there.",
+                                     epilog="`clio-draft sqlite --help` has the options; the manual is man clio-draft.")
+    kinds = parser.add_subparsers(dest="kind", required=True, metavar="sqlite|postgres|csv|json")
+    for kind, places in ("sqlite", ["FILE"]), ("postgres", ["CONNINFO"]), ("csv", ["FOLDER"]), ("json", ["FILE"]):
+        one = kinds.add_parser(kind)
+        one.add_argument("place", metavar=places[0])
+        if kind == "postgres":
+            one.add_argument("schema", nargs="?", default="public", metavar="SCHEMA")
+        if kind == "csv":
+            one.add_argument("--delimiter", default=",", metavar="SIGN")
+        one.add_argument("--side", choices=["source", "target"], default="source")
+        one.add_argument("--data", metavar="FOLDER", help="write the files that the source reads into this folder")
+        one.add_argument("--mapping", metavar="FILE", help="write them for the sets of this mapping text, and print nothing")
+    given = parser.parse_args(words)
+    if given.side == "target" and given.data:
+        parser.error("--data is for the source: of the target no data is read")
+    if given.mapping and not given.data:
+        parser.error("--mapping needs --data")
+    return given
+
+
+def opened(given):
+    """What is read, and the files that must not be written over."""
+    if given.kind == "sqlite":
+        return sqlite.Base(given.place), [given.place]
+    if given.kind == "postgres":
+        return postgres.Base(given.place, given.schema), []
+    if given.kind == "csv":
+        folder = pathlib.Path(given.place)
+        base = delimited.Base(folder, delimited.delimiter_of(given.delimiter))
+        return base, list(folder.iterdir())
+    return document.Base(given.place), [given.place]
+
+
+def wanted_sets(side, mapping):
+    """The tables whose data is written, each with the order of its columns."""
+    if mapping is None:
+        return [(table, [column.word for column in table.said]) for table in side.said]
+    try:
+        sets = read_sets(pathlib.Path(mapping).read_text(encoding="utf-8", errors="replace"))["source"]
+    except ValueError as error:
+        raise Refused(f"{mapping}: {error}") from None
+    wanted = []
+    for one in sets:
+        if one.parent is None:
+            table = find_set(side, one.name)
+            there = [column.word for column in table.said]
+            missing = [column for column in one.declared if column not in there]
+            if missing:
+                raise Refused(f"{shown(table.name)} has no column for {', '.join(missing)} of {mapping}: it has {', '.join(there)}")
+            wanted.append((table, one.declared))
+    return wanted
+
+
+def write_data(base, wanted, written):
+    """Writes the files of these tables."""
+    orders = dict((id(table), order) for table, order in wanted)
+    tables = [table for table, _ in wanted]
+    pairs = base.all_rows(tables) if hasattr(base, "all_rows") else ((table, None) for table in tables)
+    for table, rows in pairs:
+        if table.inner:
+            written.document(table, base.documents(table))
+        else:
+            written.table(table, base.rows(table) if rows is None else rows, orders[id(table)])
+
+
+def work(words):
+    given = words_of(words)
+    base, sources = opened(given)
+    side = Side(given.side, base.tables())
+    if given.data:
+        written = Written(given.data, sources, lambda text: remark("clio-draft", text))
+        wanted = wanted_sets(side, given.mapping)
+        write_data(base, wanted, written)
+        written.check_limits()
+        if not given.mapping:
+            for table, _ in wanted:
+                written.check_refs(table)
+    if not given.mapping:
+        print(side_text(side), end="")
+
+
+def main():
+    run("clio-draft", work)

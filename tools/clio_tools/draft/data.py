@@ -1,0 +1,102 @@
+"""The files that a side reads, written into a folder."""
+import json
+import os
+import pathlib
+
+from clio_tools.csv import read_table, record_text
+from clio_tools.program import Refused
+
+MOST_CELLS = 4_000_000
+MOST_BYTES = 67_108_864
+
+
+class Written:
+    """Writes files and counts what clio limits; `remark` takes what a reader should know."""
+
+    def __init__(self, folder, sources, remark):
+        self.folder = pathlib.Path(folder)
+        self.folder.mkdir(parents=True, exist_ok=True)
+        self.sources = [pathlib.Path(one).resolve() for one in sources]
+        self.remark = remark
+        self.cells = 0
+        self.bytes = 0
+
+    def _replace(self, name, write):
+        """Writes a file under another name first, so that none is ever cut."""
+        path = self.folder / name
+        if path.resolve() in self.sources:
+            raise Refused(f"{path} is read itself: write into another folder")
+        part = self.folder / (name + ".part")
+        try:
+            with open(part, "w", newline="", encoding="utf-8") as file:
+                write(file)
+            self.bytes += part.stat().st_size
+            os.replace(part, path)
+        except BaseException:
+            part.unlink(missing_ok=True)
+            raise
+
+    def table(self, table, rows, order):
+        """Writes a table as CSV, with its columns in this order; NULL is the empty text."""
+        columns = table.said
+        places = [[column.word for column in columns].index(word) for word in order]
+        nulls, empties = [0] * len(columns), [0] * len(columns)
+        count = 0
+
+        def write(file):
+            nonlocal count
+            file.write(record_text(order))
+            for row in rows:
+                count += 1
+                for place, cell in enumerate(row):
+                    if not cell:
+                        (nulls if cell is None else empties)[place] += 1
+                file.write(record_text([row[place] or "" for place in places]))
+
+        self._replace(table.word + ".csv", write)
+        self.cells += count * len(order)
+        for column, null, empty in zip(columns, nulls, empties):
+            if null and empty:
+                both = f"NULL, which stands there {times(null)}, and the empty text, {times(empty)}"
+                self.remark(f"{table.word}.{column.word}: {both}, are both written as the empty text")
+
+    def document(self, table, objects):
+        """Writes the objects of a set with inner ones as a document; what is not there is the empty text."""
+        self._replace(table.word + ".json", lambda file: file.write(json.dumps(objects, ensure_ascii=False) + "\n"))
+        self.cells += sum(cells_of(one) for one in objects)
+
+    def check_limits(self):
+        for what, count, most in ("cells", self.cells, MOST_CELLS), ("bytes", self.bytes, MOST_BYTES):
+            if count > most:
+                self.remark(f"the files have {count} {what}, and clio takes at most {most}: split them, or run the script on your own engine")
+
+    def check_refs(self, table):
+        """Says how many rows of a table have no match along each ref."""
+        for ref in table.refs:
+            own, referred = ref.words(table)
+            there = set(tuples(self.folder, ref.other, referred))
+            missing = sum(1 for row in tuples(self.folder, table, own) if row not in there)
+            if missing:
+                rows, them = ("1 row has", "it") if missing == 1 else (f"{missing} rows have", "them")
+                self.remark(f"{table.word}: {rows} no match in {ref.other.word} by ({', '.join(own)}): lines along the ref drop {them}")
+
+
+def times(count):
+    return "once" if count == 1 else f"{count} times"
+
+
+def tuples(folder, table, words):
+    """The texts of these columns in each row of a file that was written."""
+    columns = header_of(folder / (table.word + ".csv"))
+    places = [columns.index(word) for word in words]
+    for row in read_table(folder / (table.word + ".csv"), columns):
+        yield tuple(row[place] for place in places)
+
+
+def header_of(path):
+    with open(path, encoding="utf-8") as file:
+        return file.readline().rstrip("\n").split(",")
+
+
+def cells_of(one):
+    return 1 + sum(sum(cells_of(each) for each in value) if isinstance(value, list) else 1 for value in one.values())

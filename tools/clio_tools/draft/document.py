@@ -1,0 +1,152 @@
+"""The sets of a JSON document or of a file with a document in each line, and the documents that clio reads of them.
+
+An array of objects is a set, inside another one an inner set; an object in a column's place becomes columns `member_column`; an array of
+single values an inner set with the column `value`. A number with a fraction is its text.
+"""
+import dataclasses
+import pathlib
+
+from clio_tools import json as clio_json
+from clio_tools.program import Refused
+
+from clio_tools.draft.model import Column, Table
+
+VALUE = "value"  # the column of an array of single values
+PLACE = "place"  # that of objects without any
+
+
+@dataclasses.dataclass
+class Shape:
+    """What the objects of an array have in them: the kinds of each member."""
+
+    kinds: dict = dataclasses.field(default_factory=dict)
+    inner: dict = dataclasses.field(default_factory=dict)
+
+    def look(self, one, prefix=()):
+        """Takes an object in."""
+        for name, value in one.items():
+            path = (*prefix, name)
+            if isinstance(value, dict):
+                self.kinds.setdefault(path, set()).add("object")
+                self.look(value, path)
+            elif isinstance(value, list):
+                self.kinds.setdefault(path, set()).add("array")
+                inner = self.inner.setdefault(path, Shape())
+                for each in value:
+                    inner.look(each if isinstance(each, dict) else {VALUE: each})
+            else:
+                self.kinds.setdefault(path, set()).update(() if value is None else {"value"})
+
+    def why_not(self, path):
+        """Why a member can't be said, if so."""
+        kinds = self.kinds[path]
+        if len(kinds) > 1:
+            return f"it is {' or '.join(sorted(kinds))}"
+        return ""
+
+
+class Base:
+    """A file with a document, or with one in each line."""
+
+    def __init__(self, path):
+        self.path = pathlib.Path(path)
+        self.arrays = roots_of(self.path, values_of(self.path))
+        self.paths = {}
+
+    def tables(self):
+        return [self._table(name, shape_of(array), None) for name, array in self.arrays.items()]
+
+    def _table(self, name, shape, parent):
+        table = Table(name, [], parent=parent)
+        for path in shape.kinds:
+            why_not = shape.why_not(path)
+            column = Column("_".join(path))
+            if why_not:
+                table.notes.append(f"{column.name} is left out: {why_not}")
+            elif shape.kinds[path] == {"array"}:
+                inner = self._table(column.name, shape.inner[path], table)
+                self.paths[id(inner)] = path
+                table.inner.append(inner)
+            elif shape.kinds[path] != {"object"}:
+                self.paths[id(column)] = path
+                table.columns.append(column)
+        if not table.columns:
+            table.columns.append(Column(PLACE))
+            table.notes.append(f"{PLACE} is the place of the object, since a set has one column at least")
+        return table
+
+    def documents(self, table):
+        """The objects of a root set as clio reads them, with the words for names."""
+        return [self._object(table, one, place) for place, one in enumerate(self.arrays[table.name])]
+
+    def rows(self, table):
+        for one in self.documents(table):
+            yield [one[column.word] for column in table.said]
+
+    def _object(self, table, one, place):
+        made = {}
+        for column in table.said:
+            path = self.paths.get(id(column))
+            made[column.word] = str(place) if path is None else text_at(one, path)
+        for inner in table.inner:
+            if not inner.why_not:
+                array = value_at(one, self.paths[id(inner)]) or []
+                made[inner.word] = [self._object(inner, each if isinstance(each, dict) else {VALUE: each}, number) for number, each in enumerate(array)]
+        return made
+
+
+def value_at(one, path):
+    for name in path:
+        one = one.get(name) if isinstance(one, dict) else None
+    return one
+
+
+def text_at(one, path):
+    """The text of a column; what clio refuses of numbers is its text."""
+    value = value_at(one, path)
+    if value is None:
+        return None
+    if isinstance(value, str):
+        value = str(value)
+    return clio_json.scalar(value, "/".join(path))
+
+
+def shape_of(array):
+    shape = Shape()
+    for one in array:
+        shape.look(one)
+    return shape
+
+
+def values_of(path):
+    """The document of a file, or those of its lines as one array."""
+    content = path.read_bytes()
+    try:
+        return clio_json.parse(content, path, twice=False)
+    except Refused as why:
+        lines = [(number, line) for number, line in enumerate(content.removeprefix(clio_json.MARK).split(b"\n"), 1) if line.strip()]
+        if len(lines) < 2:
+            raise
+        try:
+            first = clio_json.parse(lines[0][1], path, twice=False)
+        except Refused:
+            raise why from None
+        if not isinstance(first, dict):
+            raise
+        return [clio_json.parse(line, f"{path}: line {number}", twice=False) for number, line in lines]
+
+
+def roots_of(path, document):
+    """The arrays of objects of a document by their names: itself, or its members."""
+    if isinstance(document, list):
+        arrays = {path.stem: document}
+    elif isinstance(document, dict) and document and all(isinstance(one, list) for one in document.values()):
+        arrays = document
+    elif isinstance(document, dict):
+        arrays = {path.stem: [document]}
+    else:
+        raise Refused(f"{path}: the document is a single value, and an array of objects must stand there")
+    for name, array in arrays.items():
+        if any(not isinstance(one, dict) for one in array):
+            raise Refused(f"{path}: {name} has an element that is no object")
+    return arrays

@@ -1,0 +1,73 @@
+"""A side of a mapping text, printed."""
+from clio_tools.draft.names import shown
+
+NO_MATCH = {
+    "source": "and lines drop rows without a match: leave the ref out if no line needs it, or make it optional (mapping 2)",
+    "target": "but a row without a link would get one to a row of nulls: make the ref optional (mapping 2)",
+}
+
+
+def side_text(side):
+    """The text, with what can't be said as comments."""
+    lines = [f"{side.name} {{", *("  " + line for line in renamed(side))]
+    for table in side.roots:
+        lines += set_lines(table, side.name, "  ")
+    return "\n".join(lines + ["}"]) + "\n"
+
+
+def renamed(side):
+    """The names that are no words, each with its word."""
+    for table in side.tables:
+        if table.word != table.name:
+            yield f"// {shown(table.name)} is {table.word}"
+        for column in table.columns:
+            if column.word != column.name and not column.why_not and not table.why_not:
+                yield f"// {shown(table.name)}.{shown(column.name)} is {table.word}.{column.word}"
+
+
+def set_lines(table, side_name, blanks):
+    """The lines of a set, or the comment in its place."""
+    if table.why_not:
+        return [f"{blanks}// {shown(table.name)} is left out: {table.why_not}"]
+    lines = [f"{blanks}set {table.word} {{", *wrapped([column.word for column in table.said], blanks + "  ")]
+    within = [f"// {shown(column.name)} is left out: {column.why_not}" for column in table.columns if column.why_not]
+    within += [key_line(table, key, side_name) for key in table.keys]
+    within += ref_lines(table, side_name)
+    within += [f"// {note}" for note in table.notes]
+    lines += [f"{blanks}  {line}" for line in within]
+    for inner in table.inner:
+        lines += set_lines(inner, side_name, blanks + "  ")
+    return lines + [f"{blanks}}}"]
+
+
+def wrapped(words, blanks):
+    """The columns, in lines that are not too long."""
+    lines, line = [], blanks
+    for place, word in enumerate(words):
+        end = ";" if place == len(words) - 1 else ","
+        if len(line) + len(word) > 130 and line.strip():
+            lines.append(line.rstrip())
+            line = blanks
+        line += f"{word}{end} "
+    return lines + [line.rstrip()]
+
+
+def key_line(table, key, side_name):
+    columns = [table.column(name) for name in key]
+    line = f"key ({', '.join(column.word for column in columns)});"
+    if side_name == "target" and any(column.may_be_null for column in columns):
+        line += "  // NULL is allowed there, but rows with equal empty texts would become one here"
+    return line
+
+
+def ref_lines(table, side_name):
+    seen = []
+    for ref in table.refs:
+        own, referred = ref.words(table)
+        line = f"ref ({', '.join(own)}) -> {ref.other.word} ({', '.join(referred)});"
+        if ref.other in seen:
+            line += f"  // a second ref to {ref.other.word}: a line of it goes both ways, so leave one out or write rules"
+        elif any(table.column(name).may_be_null for name in ref.columns):
+            line += f"  // NULL is allowed there, {NO_MATCH[side_name]}"
+        seen.append(ref.other)
+        yield line

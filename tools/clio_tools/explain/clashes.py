@@ -1,0 +1,129 @@
+"""All clashes of a mapping and its source, each with the source rows behind its texts."""
+import re
+
+from clio_tools.explain.joins import Matches, TooMany
+from clio_tools.explain.key_chase import Canonical, KeyChase
+from clio_tools.explain.program import mapping_of
+from clio_tools.explain.said import amount, shown, visible
+from clio_tools.explain.source import Source
+
+IN_FULL = 50  # clashes that are told with their rows
+IN_ALL = 1000  # clashes that are told at all
+ROWS = 3  # rows that are told of one text
+STRING = r'("[^"\\]*(?:\\.[^"\\]*)*")'
+FORM = re.compile(rf"clash: table (\w+), key \(([#\w, ]+)\): {STRING} and {STRING} in column ([#\w]+)", re.DOTALL)
+
+
+class Clashes:
+    """The clashes, and what is needed to tell them."""
+
+    def __init__(self, mapping, printed):
+        self.mapping, self.printed = mapping, printed
+        self.source = Source(mapping)
+        matches = [Matches(rule, self.source) for rule in mapping.rules]
+        self.canonical = Canonical(mapping.rules, matches, mapping.target)
+        self.matches = matches
+        self.chase = KeyChase(self.canonical.rows, mapping.target)
+        self.clashes = self.chase.clashes()
+
+    def ordered(self, message):
+        """The clashes, first those that the message tells."""
+        told = FORM.fullmatch(message)
+        if not told:
+            return self.clashes
+        names = (told[1], told[2].split(", "), told[5])
+        texts = {plain(told[3]), plain(told[4])}
+        is_told = lambda clash: self.names(clash) == names and texts <= set(clash.texts)
+        return sorted(self.clashes, key=lambda clash: not is_told(clash))
+
+    def names(self, clash):
+        """The names of a clash's table, of its key's columns and of its column."""
+        table = self.mapping.target[clash.table]
+        return table.name, [table.columns[column] for column in self.left(clash)], table.columns[clash.column]
+
+    def left(self, step):
+        """The columns of the key, or the left ones of the dependency, of a clash or a step."""
+        return self.chase.determinations[step.table][step.key][0]
+
+    def lines(self, message):
+        """All clashes in words."""
+        ordered = self.ordered(message)
+        yield f"{amount(len(ordered), 'clash', 'clashes')} in all: rows that agree on a key{self.or_dependency()} and have different texts in a column"
+        for number, clash in enumerate(ordered[:IN_ALL]):
+            table, key, column = self.names(clash)
+            agreed = ", ".join(f"{name} = {self.shown_value(value)}" for name, value in zip(key, clash.agreed))
+            texts = list(clash.texts)
+            yield (f"{number + 1}. {table}, {agreed}: column {column} has {amount(len(texts), 'text')}: "
+                   + ", ".join(map(shown, texts[:4])) + (", .." if len(texts) > 4 else ""))
+            if number < IN_FULL:
+                for text in texts[:8]:
+                    yield from self.of_text(clash, text)
+                yield from self.of_nulls(clash)
+        if len(ordered) > IN_ALL:
+            yield f"and {len(ordered) - IN_ALL:,} more"
+
+    def or_dependency(self):
+        """What else rows may agree on."""
+        return ", or on the left of a dependency," if any(table.tree.dependencies for table in self.mapping.target) else ""
+
+    def shown_value(self, value):
+        return "?%d.%d.%d" % value if isinstance(value, tuple) else shown(value)
+
+    def of_text(self, clash, text):
+        """The rows that have a text, with the source rows that they are from."""
+        rows = clash.texts[text]
+        for row in rows[:ROWS]:
+            origin = self.canonical.origins[clash.table][row][0]
+            yield f"   {shown(text)} by rule {origin.rule}: {visible(self.printed[origin.rule])[:300]}"
+            first = True
+            for line in self.sources(origin):
+                yield f"      {'from' if first else ' and'} {line}"
+                first = False
+        if len(rows) > ROWS:
+            yield f"   {shown(text)} in {len(rows) - ROWS} more"
+
+    def sources(self, origin):
+        """The source rows of the first match that gives a tuple."""
+        chosen = self.matches[origin.rule].found[origin.tuple][0]
+        rule = self.mapping.rules[origin.rule]
+        for table, row in dict.fromkeys((atom.table, row) for atom, row in zip(rule.premise, chosen)):
+            yield self.source.shown_row(table, row)
+
+    def of_nulls(self, clash):
+        """How the nulls in the key of a clash's rows became what they are."""
+        told = set()
+        for row in [rows[0] for rows in clash.texts.values()][:4]:
+            for column in (*self.left(clash), clash.column):
+                yield from self.of_value(self.canonical.rows[clash.table][row][column], told)
+
+    def of_value(self, value, told):
+        """The key steps that replaced a null, one after the other."""
+        while value in self.chase.steps and value not in told and len(told) < 12:
+            told.add(value)
+            step = self.chase.steps[value]
+            table = self.mapping.target[step.table]
+            key = ", ".join(table.columns[column] for column in self.left(step))
+            yield f"   {self.shown_value(value)} is {self.shown_value(step.value)}, since two rows of {table.name} agree on ({key}):"
+            for row in step.rows:
+                for place, line in enumerate(self.sources(self.canonical.origins[step.table][row][0])):
+                    yield f"      {'from' if not place else ' and'} {line}"
+            for row in step.rows:
+                for column in self.left(step):
+                    yield from self.of_value(self.canonical.rows[step.table][row][column], told)
+            value = step.value
+
+
+def plain(literal):
+    """The text of a string of the mapping text."""
+    return re.sub(r"\\(.)", r"\1", literal[1:-1], flags=re.DOTALL)
+
+
+def explain(message, content):
+    """The lines that explain a clash."""
+    mapping, printed = mapping_of(content)
+    if mapping is None:
+        return
+    try:
+        yield from Clashes(mapping, printed).lines(message)
+    except TooMany:
+        yield "the matches of the rules are too many to look for all clashes here"

@@ -1,0 +1,68 @@
+"""Runs clio, and says what its message or its verdict leaves out.
+
+    clio-explain [WORD..]
+
+It runs `clio` with these words in the current folder: the one on the path, or else the one of the repository. What clio prints, its message and its
+status are passed on unchanged. Below the message it says more on standard error, each text in quotes, cut if it is long, and without control
+characters:
+
+    mapping: ..          line, column, carets under the word, what can be there, and the names that exist there
+    rows: ..             the expected and the found header; the record with its fields and its line; the place in a document; the field that is no value
+    clash: ..            all clashes, each with the source rows behind its texts, and how keys made the nulls in its key equal
+    limit: ..            which set, pair or rule passes it, how large it is, and what to do
+    read fault: ..       the reason of the system
+    write fault: ..      which file, and the reason of the system
+    out of memory        how much there is
+    query: ..            line, column, carets under the word, what can be there, and the sets and variables that exist there
+    other: ..            the same of the second mapping; in what two schemas differ; the conditions, or the rule, that keep mappings from being compared
+    verdict not a ..     the source rows of the match and the given row that comes nearest, or the rows that break a key or a link
+
+If nothing was refused it warns of what the manual calls traps: a rule of lines that has a set twice, a ref of the source that drops rows, with their
+number, and whether a line uses it; columns of the source that go nowhere, and columns of the target that nothing fills; records that are there twice,
+and matches that became one; rows of nothing but nulls; rows with nothing in their key; a set that has no key to group by; a quote that is never
+closed. After `show` it speaks of the mapping alone.
+
+It reads the mapping and the files anew after clio has ended, and runs `clio show` for the rules, and `clio judge` for a verdict once more. For data at
+clio's limits that takes up to a minute.
+A message that it can't explain, as that of a mapping in a later version of the text, is passed on alone. At most 1,000 clashes are listed, the first
+50 with their rows; if rules have more than 20,000,000 matches, none.
+
+EXIT STATUS
+That of clio; 128 and the number of a signal if one ended it; 1 if there is no clio.
+"""
+import os
+import subprocess
+import sys
+
+from clio_tools.explain.endings import explained
+from clio_tools.explain.program import program
+
+
+def say(lines, before):
+    """Prints lines on standard error as they come; a failure to explain is no failure of the run."""
+    try:
+        for line in lines:
+            os.write(2, f"{before}{line}\n".encode("utf-8", "backslashreplace"))
+    except MemoryError:
+        os.write(2, b"clio-explain: memory ran out\n")
+    except Exception as error:  # pylint: disable=broad-except
+        os.write(2, f"clio-explain: no more can be said of it ({type(error).__name__}: {str(error)[:200]})\n".encode("utf-8", "backslashreplace"))
+
+
+def main():
+    words = sys.argv[1:]
+    clio = program()
+    if not clio:
+        sys.exit("clio-explain: there is no clio on the path, and none was built")
+    try:
+        run = subprocess.run([clio, *words], stderr=subprocess.PIPE, check=False)
+    except OSError as error:
+        sys.exit(f"clio-explain: {clio}: {error.strerror}")
+    try:
+        sys.stderr.buffer.write(run.stderr)
+        sys.stderr.flush()
+        message = run.stderr.decode("utf-8", "surrogateescape").removesuffix("\n")
+        say(explained(run.returncode, message, words), "clio-explain: " if run.returncode == 0 else "  ")
+    except OSError:
+        pass  # nobody reads standard error
+    sys.exit(run.returncode if run.returncode >= 0 else 128 - run.returncode)

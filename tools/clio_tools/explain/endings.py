@@ -1,0 +1,94 @@
+"""What can be said of each way in which clio ends, by its status and its message."""
+import pathlib
+import re
+import signal
+
+from schema import tables_of
+
+from clio_tools.explain import clashes, document_faults, given_faults, mapping_faults, other_faults, query_faults, sizes, system_faults, table_faults, traps, verdicts
+from clio_tools.explain.placed import MappingText
+from clio_tools.explain.said import visible
+from clio_tools.explain.source import file_of
+
+OPTIONS = {"show": {"--core"}, "exchange": {"--core", "--nested"}, "demo": {"--core"}}
+
+
+def text_of(name):
+    """The bytes of a text of the current folder, if it can be read."""
+    try:
+        return pathlib.Path(name).read_bytes()
+    except OSError:
+        return None
+
+
+def usage(words, message):
+    """Which word clio doesn't take; its commands are those of its message."""
+    commands = list(dict.fromkeys(re.findall(r"\bclio ([a-z]+)", message))) or list(OPTIONS)
+    listed = f"{', '.join(commands[:-1])} or {commands[-1]}"
+    if not words:
+        yield f"there is no command: {listed}"
+        return
+    if words[0] not in commands:
+        yield f"`{visible(words[0][:60])}` is no command: {listed}" + (
+            "; the manual is man clio, that of clio-explain is man clio-explain" if words[0] in ("help", "--help", "-h") else "")
+        return
+    numbers = [word for word in words[1:] if re.fullmatch("[1-9][0-9]{0,4}|100000", word)]
+    known = OPTIONS.get(words[0], set())
+    for place, word in enumerate(words[1:], 1):
+        if word in words[1:place]:
+            yield f"`{visible(word)}` is there twice"
+        elif word not in known and not (words[0] == "demo" and word in numbers):
+            yield f"`{visible(word[:60])}` is no word that {words[0]} takes; it takes {', '.join(sorted(known)) or 'none'}" + (
+                " and a number from 1 to 100000" if words[0] == "demo" else "")
+    if words[0] == "demo" and len(numbers) != 1:
+        yield "demo takes one number from 1 to 100000, without a sign or a zero in front"
+
+
+def rows(message):
+    """What is wrong with a source file."""
+    text = MappingText(text_of("mapping.clio"))
+    if message.startswith("rows: given/"):
+        yield from given_faults.explain(message.removeprefix("rows: "), tables_of(text.target))
+        return
+    tables = tables_of(text.source)
+    for number, table in enumerate(tables):
+        file = file_of(table)
+        if table.parent is not None or not message.startswith(f"rows: {file}"):
+            continue
+        if message == f"rows: {file} is absent":
+            yield from table_faults.absent(file, table)
+        elif message.startswith(f"rows: {file}: "):
+            rest, found = message.removeprefix(f"rows: {file}: "), pathlib.Path(file).read_bytes()
+            yield from document_faults.explain(rest, file, found, tables, number) if table.inner else table_faults.explain(rest, file, found, table.tree.columns)
+
+
+def explained(status, message, words):
+    """The lines that explain how clio ended."""
+    content = text_of("mapping.clio")
+    if status < 0:
+        yield f"clio was ended by the signal {signal.Signals(-status).name}" + (
+            ": the stack ran out" if -status == signal.SIGSEGV else ": memory may have run out" if -status == signal.SIGKILL else "")
+    elif status == 0 and words[0] in ("show", "exchange") and content is not None:
+        yield from traps.explain(words, content)
+    elif status == 0 and words == ["judge"] and content is not None:
+        yield from verdicts.explain(content)
+    elif status == 2:
+        yield from usage(words, message)
+    elif status == 3 and content is not None:
+        yield from clashes.explain(message, content)
+    elif status == 4:
+        yield from mapping_faults.explain(message, content)
+    elif status == 5:
+        yield from rows(message)
+    elif status == 6:
+        yield from sizes.explain(message, content, words)
+    elif status == 7:
+        yield from system_faults.reading(message.removeprefix("read fault: "))
+    elif status == 8:
+        yield from system_faults.writing(message, content, words)
+    elif status == 9:
+        yield from system_faults.memory(content)
+    elif status == 10 and content is not None:
+        yield from query_faults.explain(message, text_of("query.clio"), content)
+    elif status == 11 and content is not None:
+        yield from other_faults.explain(message, text_of("other.clio"), content)

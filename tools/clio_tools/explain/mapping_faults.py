@@ -1,0 +1,264 @@
+"""What a refusal of the mapping text leaves out: the line, the word, and the names that exist there."""
+import difflib
+import os
+import re
+
+from matches import NAMED, TESTS
+from names import check_schema
+from refusals import Limit, Refusal
+from schema import tables_of
+
+from clio_tools.explain.placed import MappingText, open_marks, token_length
+from clio_tools.explain.said import amount, listed, visible, with_caret
+
+LATER = {"optional": (2, ";"), "only": (2, '"line"'), "dep": (3, '"key"')}  # the version that a word takes, and what can be in its place before
+KINDS = {"word": "a name", "string": 'a text in "', "->": "`->`"}
+CHARACTERS = {
+    b"'": "texts are in \", not in '", b"#": "a comment begins with //", b"-": "a name has letters, digits and _ alone; an arrow is ->",
+    b">": "an arrow is ->", b"/": "a comment begins with //", b"\xef": "if this is a byte order mark, take it off: sed -i '1s/^\\xef\\xbb\\xbf//' mapping.clio",
+    b"\xff": "the text isn't UTF-8: write it as UTF-8", b"\xfe": "the text isn't UTF-8: write it as UTF-8", b":": "the marks are { } ( ) , ; . = ->",
+}
+
+
+def explain(message, content):
+    """The lines that explain a message `mapping: ..` on the text with these bytes."""
+    if content is None:
+        yield from absent()
+        return
+    text = MappingText(content)
+    found = re.fullmatch(r"mapping: (.*) at byte ([0-9]+)", message)
+    if found:
+        yield from at_byte(found[1], int(found[2]), text, message)
+        return
+    found = re.fullmatch(r"mapping: (source|target): (.*?) ([A-Za-z_][A-Za-z0-9_]*|#id|#up)", message)
+    if found and not text.refusal:
+        yield from of_sets(found[1], found[2], found[3], text)
+
+
+def absent():
+    """There is no mapping.clio."""
+    yield f"clio reads mapping.clio in the folder where it is started: {visible(os.getcwd())}"
+    if os.path.islink("mapping.clio"):
+        yield f"mapping.clio is a link to {visible(os.readlink('mapping.clio'))}, which isn't there"
+    alike = [name for name in sorted(os.listdir(".")) if name.lower().endswith(".clio")]
+    if alike:
+        yield f"there is {listed(alike)}: rename it, or link it: ln -s {visible(alike[0])} mapping.clio"
+    below = [name for name in sorted(os.listdir(".")) if os.path.isfile(os.path.join(name, "mapping.clio"))]
+    if below:
+        yield f"these folders have one: {listed(below)}"
+
+
+def at_byte(kind, place, text, message):
+    """A fault at a byte: its line with carets, then what stands in its place or what exists."""
+    yield from with_caret(text.content, place, token_length(text.content, place))
+    if kind in ("unexpected token", "text ended") and text.refusal and text.refusal.message == message:
+        yield "here can be " + " or ".join(KINDS.get(one, f"`{one.strip(chr(34))}`") for one in text.reader.allowed)
+        yield from of_version(place, text)
+    if kind == "text ended":
+        yield from unclosed(text.content)
+    elif kind == "bad character":
+        yield from of_character(text.content, place)
+    elif kind in ("unknown name", "wrong number of cells", "unsafe variable") and not text.refusal:
+        yield from of_name(place, text)
+
+
+def of_version(place, text):
+    """A word of a later version of the mapping text than the one that its beginning names."""
+    word = text.content[place:place + token_length(text.content, place)].decode("utf-8", "replace")
+    version, beside = LATER.get(word, (0, None))
+    if version > text.reader.version and beside in text.reader.allowed:
+        yield f"`{word}` takes version {version}: let the text begin with mapping {version};"
+
+
+def unclosed(content):
+    """What is open at the end of the text."""
+    opened, string = open_marks(content)
+    if string is not None:
+        yield "this text in quotes isn't closed:"
+        yield from with_caret(content, string)
+    elif opened:
+        yield f"{amount(len(opened), 'bracket')} not closed; the last one:"
+        yield from with_caret(content, opened[-1])
+
+
+def of_character(content, place):
+    """A byte at which no token begins, or that can't be in a text."""
+    byte = content[place:place + 1]
+    if not byte:
+        return
+    yield f"the byte {byte.hex()} begins nothing that can be here" + (f"; {CHARACTERS[byte]}" if byte in CHARACTERS else "")
+    if content[place - 1:place] == b"\\":
+        yield 'in a text in quotes \\" and \\\\ are the only escapes'
+    elif byte < b" ":
+        yield "a text in quotes is on one line, without tabs and other control characters"
+    elif byte >= b"\x80":
+        yield "names are of the letters A to Z and a to z, digits and _; texts in quotes are UTF-8"
+
+
+def of_name(place, text):
+    """Says what exists where a name of a line or a rule isn't known or doesn't fit."""
+    tables = {"source": tables_of(text.source), "target": tables_of(text.target)}
+    for line in text.lines:
+        if line.conversion and line.conversion.start == place:
+            yield from of_conversion(line.conversion, line.columns)
+        for side, one in [("source", column) for column in line.columns] + [("target", line.target)]:
+            if one.set.start == place:
+                yield from of_set(one.set.text, side, tables)
+            elif one.column.start == place:
+                table = next(table for table in tables[side] if table.name == one.set.text)
+                yield from close_ones(f"the columns of {table.name}", one.column.text, table.tree.columns)
+    for condition in text.conditions:
+        yield from of_condition(place, condition, tables["source"])
+    for rule in text.rules:
+        for side, atoms in ("source", rule.premise), ("target", rule.conclusion):
+            for atom in atoms:
+                if atom.name.start == place:
+                    yield from of_atom(atom, side, tables)
+        yield from of_derived(rule, place)
+
+
+def of_condition(place, condition, tables):
+    """A condition whose set, column or test isn't there."""
+    if condition.place.set.start == place:
+        yield from close_ones("the sets of the source", condition.place.set.text, [table.name for table in tables])
+    elif condition.place.column.start == place:
+        table = next(table for table in tables if table.name == condition.place.set.text)
+        yield from close_ones(f"the columns of {table.name}", condition.place.column.text, table.tree.columns)
+    elif condition.test.start == place:
+        yield from close_ones("the tests", condition.test.text, TESTS)
+
+
+def of_set(name, side, tables):
+    """A set that this side doesn't have."""
+    other = "target" if side == "source" else "source"
+    if any(table.name == name for table in tables[other]):
+        yield f"{name} is a set of the {other}: lines and rules go from the source to the target"
+    yield from close_ones(f"the sets of the {side}", name, [table.name for table in tables[side]])
+
+
+def of_atom(atom, side, tables):
+    """An atom of a set that isn't there, or with too few or too many cells."""
+    table = next((table for table in tables[side] if table.name == atom.name.text), None)
+    if table is None:
+        yield from of_set(atom.name.text, side, tables)
+        return
+    yield f"{amount(len(atom.cells), 'cell')} for {amount(len(table.columns), 'column')}: {table.name}({listed(table.columns, 64)})"
+    yield f"cells here: {listed((cell.text for cell in atom.cells), 64)}"
+
+
+def of_conversion(name, arguments):
+    """A conversion that isn't there, or with too few or too many columns."""
+    if name.text in NAMED:
+        yield f"{name.text} takes {amount(NAMED[name.text].arity, 'column')}, and here are {len(arguments)}"
+        return
+    yield from close_ones("the conversions", name.text, NAMED)
+
+
+def of_derived(rule, place):
+    """What is wrong after `where`."""
+    variables = list(dict.fromkeys(cell.text for atom in rule.premise for cell in atom.cells))
+    taken = list(variables)
+    for one in rule.derived:
+        if one.name.start == place:
+            yield f"{one.name.text} is taken already; taken are {listed(taken)}"
+        if one.call.name.start == place:
+            yield from of_conversion(one.call.name, one.call.cells)
+        if any(cell.start == place for cell in one.call.cells):
+            yield f"a conversion takes variables of the rule's left side: {listed(variables)}"
+        taken.append(one.name.text)
+
+
+def close_ones(what, name, names):
+    """The names that exist, and the one that is most like this one."""
+    yield f"{what}: {listed(names, 64) or 'none'}"
+    lower = {one.lower(): one for one in names}
+    alike = difflib.get_close_matches(name.lower(), lower, 1)
+    if alike:
+        yield f"perhaps {lower[alike[0]]}"
+
+
+def of_sets(side, kind, name, text):
+    """A fault of the sets, keys and refs of a side."""
+    trees = text.source if side == "source" else text.target
+    if kind == "reserved name":
+        place = next(tree.name for tree in text.side("target") if tree.name == name)
+        yield from with_caret(text.content, place.start, len(name))
+        yield "clio writes files of its own called nulls.csv and fold.csv"
+        return
+    try:
+        check_schema(trees, side)
+        return
+    except Limit:
+        return
+    except Refusal as refusal:
+        place = refusal.name
+    if getattr(place, "start", None) is None:
+        return
+    yield from with_caret(text.content, place.start, len(name))
+    if kind == "double name":
+        yield from first_of(place, text.side(side), text.content)
+    elif kind == "unknown name":
+        yield from known_there(place, text.side(side))
+    elif kind == "bad link in":
+        yield from uneven(next(tree for tree in text.side(side) if tree.name is place))
+    elif kind == "cyclic links at":
+        yield "the circle: " + circle(tables_of(trees), name)
+
+
+def first_of(place, trees, content):
+    """Where a name that is there twice is for the first time."""
+    lists = [[tree.name for tree in trees]]
+    for tree in trees:
+        lists += [tree.columns + [inner.name for inner in tree.inner], *tree.keys]
+        for dependency in tree.dependencies:
+            lists += [dependency.left, dependency.right]
+        for reference in tree.references:
+            lists += [reference.own, reference.referred]
+    for names in lists:
+        if any(one is place for one in names):
+            first = next(one for one in names if one == place)
+            if first is not place:
+                yield "it is there already:"
+                yield from with_caret(content, first.start, len(first))
+                return
+
+
+def known_there(place, trees):
+    """The columns or sets that a key, a dependency or a ref could name."""
+    named = {tree.name: tree for tree in trees}
+    for tree in trees:
+        sides = [side for dependency in tree.dependencies for side in dependency]
+        for key in tree.keys + sides + [reference.own for reference in tree.references]:
+            if any(one is place for one in key):
+                yield from close_ones(f"the columns of {tree.name}", place, tree.columns)
+        for reference in tree.references:
+            if reference.name is place:
+                yield from close_ones("the sets of this side", place, [other.name for other in trees])
+            elif any(one is place for one in reference.referred):
+                yield from close_ones(f"the columns of {reference.name}", place, named[reference.name].columns)
+
+
+def uneven(tree):
+    """The refs of a set that have more columns on one side than on the other."""
+    for reference in tree.references:
+        if len(reference.own) != len(reference.referred):
+            yield (f"ref ({listed(reference.own)}) -> {reference.name} ({listed(reference.referred)}): "
+                   f"{amount(len(reference.own), 'column')} and {len(reference.referred)}")
+
+
+def circle(tables, name):
+    """A way along links from a table back to it."""
+    start = next(number for number, table in enumerate(tables) if table.name == name)
+    before, left = {}, [start]
+    while left:
+        number = left.pop(0)
+        for link in tables[number].every_link():
+            if link.table not in before:
+                before[link.table] = (number, link)
+                left.append(link.table)
+    steps, number = [], start
+    while not steps or number != start:
+        number, link = before[number]
+        own = ", ".join(tables[number].columns[column] for column in link.own)
+        steps.append(f"{tables[number].name} ({own})")
+    return " -> ".join([*reversed(steps), name])

@@ -1,0 +1,93 @@
+"""What a refusal of the second mapping of a comparison leaves out, and in what two mappings differ that can't be compared."""
+import os
+import pathlib
+import re
+import subprocess
+import tempfile
+
+from clio_tools.explain import mapping_faults
+from clio_tools.explain.placed import MappingText
+from clio_tools.explain.program import program
+from clio_tools.explain.said import visible, with_caret
+
+NAMES = ("mapping.clio", "other.clio")
+
+
+def explain(message, content, first):
+    """The lines that explain a message `other: ..`; `content` has the bytes of other.clio, `first` those of mapping.clio."""
+    if message == "other: other.clio is absent":
+        yield from absent()
+        return
+    if content is None:
+        return
+    found = re.fullmatch(r"other: conversion in rule ([0-9]+) of (mapping\.clio|other\.clio)", message)
+    if message == "other: schemas differ":
+        yield from schemas(MappingText(first), MappingText(content))
+    elif message == "other: row conditions":
+        yield from conditions(MappingText(first), MappingText(content))
+    elif found:
+        yield from conversion(int(found[1]), found[2], content if found[2] == NAMES[1] else first)
+    else:
+        yield from mapping_faults.explain("mapping" + message.removeprefix("other"), content)
+
+
+def absent():
+    """There is no other.clio."""
+    yield f"clio compare reads mapping.clio and other.clio in the folder where it is started: {visible(os.getcwd())}"
+    if os.path.islink("other.clio"):
+        yield f"other.clio is a link to {visible(os.readlink('other.clio'))}, which isn't there"
+    alike = [name for name in sorted(os.listdir(".")) if name.lower().endswith(".clio") and name not in NAMES]
+    if alike:
+        yield f"there is {visible(alike[0])}: ln -s {visible(alike[0])} other.clio"
+
+
+def clauses(tree, parent):
+    """What is declared of a set, clause by clause."""
+    words = ", ".join
+    return [f"set {tree.name}" + (f" inside {parent}" if parent else ""), f"columns {words(tree.columns)}", *[f"key ({words(key)})" for key in tree.keys],
+            *[f"dep ({words(left)}) -> ({words(right)})" for left, right in tree.dependencies],
+            *[f"ref ({words(one.own)}) -> {one.name} ({words(one.referred)})" + " optional" * one.optional for one in tree.references]]
+
+
+def placed_sets(trees, parent=""):
+    """All sets, each before its inner sets, with its clauses."""
+    for tree in trees:
+        yield tree, clauses(tree, parent)
+        yield from placed_sets(tree.inner, tree.name)
+
+
+def schemas(one, other):
+    """The first set in which two schemas differ, and its first clause that does."""
+    for side in "source", "target":
+        sets = [list(placed_sets(getattr(text, side))) for text in (one, other)]
+        for place in range(max(map(len, sets))):
+            here = [listed[place] if place < len(listed) else (None, ["no set"]) for listed in sets]
+            if here[0][1] == here[1][1]:
+                continue
+            yield f"both mappings must declare the same sets, in the same order; the first that differs is number {place + 1} of the {side}"
+            first = next((number for number, pair in enumerate(zip(here[0][1], here[1][1])) if pair[0] != pair[1]), min(len(here[0][1]), len(here[1][1])))
+            for name, text, (tree, listed) in zip(NAMES, (one, other), here):
+                yield f"{name} has {visible(listed[first]) if first < len(listed) else 'no more'}" + (f" in set {tree.name}" if tree and first else "")
+                if tree is not None:
+                    yield from with_caret(text.content, tree.name.start, len(tree.name))
+            return
+
+
+def conditions(*texts):
+    """The conditions of both mappings."""
+    yield "mappings with conditions on rows are not compared; these are there:"
+    for name, text in zip(NAMES, texts):
+        for one in text.conditions:
+            yield f"{name}: only {one.place.set.text}.{one.place.column.text} {one.test.text}"
+            yield from with_caret(text.content, one.place.set.start, len(one.place.set.text))
+
+
+def conversion(number, name, content):
+    """The rule that has a conversion, as `clio show` prints it."""
+    with tempfile.TemporaryDirectory() as folder:
+        pathlib.Path(folder, "mapping.clio").write_bytes(content)
+        shown = subprocess.run([program(), "show"], cwd=folder, stdin=subprocess.DEVNULL, capture_output=True, check=False)
+    rules = [line for line in shown.stdout.decode().splitlines() if line.startswith("rule ")]
+    yield "mappings with conversions are not compared" + (f"; rules count from 0, as clio show prints them, and this is rule {number} of {name}:" if number < len(rules) else "")
+    if number < len(rules):
+        yield f"    {visible(rules[number][:300])}"

@@ -1,0 +1,78 @@
+"""What a refusal of a query leaves out: the line, the word, and the sets and variables that exist there."""
+import os
+import re
+
+from queries import QueryGrammar
+from refusals import Refusal
+from schema import tables_of
+
+from clio_tools.explain.mapping_faults import KINDS, of_atom, of_character, unclosed
+from clio_tools.explain.placed import MappingText, PlacedReader, token_length
+from clio_tools.explain.said import amount, listed, visible, with_caret
+
+
+class PlacedQueryReader(QueryGrammar, PlacedReader):
+    """Reads the grammar of queries, and keeps where it stopped."""
+
+
+class QueryText:
+    """A query as far as it can be read: its parts, or the refusal that stopped the reading."""
+
+    def __init__(self, content):
+        self.content, self.refusal, self.parts = content, None, []
+        self.reader = PlacedQueryReader(content)
+        try:
+            for part in self.reader.query():
+                self.parts.append(part)
+        except Refusal as refusal:
+            self.refusal = refusal
+
+
+def explain(message, content, mapping):
+    """The lines that explain a message `query: ..` on the query with these bytes, over the target of a mapping."""
+    text = MappingText(mapping)
+    sides = {"source": tables_of(text.source), "target": tables_of(text.target)}
+    found = re.fullmatch(r"query: (.*) at byte ([0-9]+)", message)
+    if message == "query: query.clio is absent":
+        yield from absent(sides["target"])
+    elif found and content is not None:
+        yield from at_byte(found[1], int(found[2]), QueryText(content), sides)
+
+
+def absent(tables):
+    """There is no query.clio."""
+    yield f"clio answer reads query.clio in the folder where it is started: {visible(os.getcwd())}"
+    if os.path.islink("query.clio"):
+        yield f"query.clio is a link to {visible(os.readlink('query.clio'))}, which isn't there"
+    if tables:
+        cells = [f"v{place}" for place in range(len(tables[0].columns))]
+        yield f"a query of all that is certain in {tables[0].name}: query 1; answer({', '.join(cells)}) from {tables[0].name}({', '.join(cells)});"
+
+
+def at_byte(kind, place, text, sides):
+    """A fault at a byte: its line with carets, then what stands in its place or what exists."""
+    yield from with_caret(text.content, place, token_length(text.content, place))
+    if kind in ("unexpected token", "text ended") and text.refusal and text.refusal.message == f"mapping: {kind} at byte {place}":
+        yield "here can be " + " or ".join(KINDS.get(one, f"`{one.strip(chr(34))}`") for one in text.reader.allowed)
+    if kind == "text ended":
+        yield from unclosed(text.content)
+    elif kind == "bad character":
+        yield from of_character(text.content, place)
+    elif not text.refusal:
+        yield from of_name(place, text.parts, sides)
+
+
+def of_name(place, parts, sides):
+    """Says what exists where a name isn't known, or doesn't fit."""
+    for number, part in enumerate(parts, 1):
+        for atom in part.atoms:
+            if atom.name.start == place:
+                if all(table.name != atom.name.text for table in sides["target"]) and any(table.name == atom.name.text for table in sides["source"]):
+                    yield f"{atom.name.text} is a set of the source, and a query asks the target"
+                yield from of_atom(atom, "target", {**sides, "source": []})
+        if part.word.start == place:
+            yield (f"part {number} answers {amount(len(part.answer), 'cell')}, and the first part {amount(len(parts[0].answer), 'cell')}: "
+                   "all parts answer rows of one width")
+        if any(cell.kind == "word" and cell.start == place for cell in part.answer):
+            variables = dict.fromkeys(cell.text for atom in part.atoms for cell in atom.cells if cell.kind == "word")
+            yield f"a variable that is answered must stand in a table of its part; those of part {number}: {listed(variables) or 'none'}"

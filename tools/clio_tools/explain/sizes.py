@@ -1,0 +1,253 @@
+"""Which size passed a limit, how large it is, and what to do."""
+import itertools
+import os
+import pathlib
+
+from clio_tools.csv import records
+from lines import number_of_candidates, number_of_choices, rules_of_lines, variants_of, ways_of
+from names import read_mapping
+from refusals import OCCURRENCES, WAYS, Limit
+from rules import closed
+from schema import tables_of
+
+from clio_tools.explain.joins import Matches, TooMany
+from clio_tools.explain.placed import MappingText
+from clio_tools.explain.program import mapping_of
+from clio_tools.explain.query_faults import QueryText
+from clio_tools.explain.said import amount, visible, with_caret
+from clio_tools.explain.source import Source, file_of
+
+DATA = ("split the source where nothing joins across the cut, or run the script on a database of your own: "
+        "clio show | grep -v '^rule ' | clio-script-to-postgres")
+CURES = {
+    "text bytes": "split the mapping",
+    "data bytes": DATA, "source cells": DATA, "target cells": DATA,
+    "tables": "split the mapping: one run takes 64 sets a side", "columns": "split the set in two that share a key, or leave columns out of the file",
+    "depth": "flatten the document", "lines": "split the mapping, or write rules: a rule fills a whole row",
+    "variants": "make refs optional only where rows without a match are wanted, or write rules in the place of lines",
+    "occurrences": "leave out refs that no line needs, or write rules in the place of lines",
+    "ways": "draw fewer lines between these two sets, or write rules in their place",
+    "candidates": "write rules in the place of lines between these sets, or leave out one of two refs to one set",
+    "rules": "split the mapping",
+    "frozen cells": "leave out a rule that others make needless, or atoms of its left side: a set many times there makes many matches",
+    "query bytes": "ask in several queries, each in a run of its own", "query atoms": "leave out atoms that others make needless, or ask in several queries",
+    "answer cells": "answer fewer variables, or put constants into the atoms", "given cells": "judge a part: leave out rows of the source, and what is made of them",
+}
+
+
+def explain(message, content, words=()):
+    """The lines that explain a message `limit: COUNT N`; a comparison has two mappings, either of which may pass it."""
+    count, _, number = message.removeprefix("limit: ").rpartition(" ")
+    parts = {"text bytes": text_bytes, "tables": tables, "columns": columns, "depth": depth, "lines": lines, "variants": variants, "occurrences": occurrences,
+             "ways": ways, "candidates": candidates, "rules": rules, "data bytes": data_bytes, "source cells": source_cells,
+             "target cells": target_cells, "frozen cells": frozen_cells, "query bytes": query_bytes, "query atoms": query_atoms,
+             "answer cells": answer_cells, "given cells": given_cells}
+    if count not in CURES:
+        return
+    if count == "text bytes":
+        yield from text_bytes(int(number))
+    elif words[:1] == ["compare"]:
+        for name in "mapping.clio", "other.clio":
+            yield f"in {name}:"
+            yield from parts[count](MappingText(pathlib.Path(name).read_bytes()), int(number))
+    else:
+        yield from parts[count](MappingText(content), int(number))
+    yield "what to do: " + CURES[count]
+
+
+def text_bytes(number):
+    for name in "mapping.clio", "other.clio":
+        if os.path.isfile(name) and (name == "mapping.clio" or os.path.getsize(name) > number):
+            yield f"{name} has {os.path.getsize(name):,} bytes; {number:,} can be read"
+
+
+def query_bytes(_, number):
+    yield f"query.clio has {os.path.getsize('query.clio'):,} bytes; {number:,} can be read"
+
+
+def query_atoms(_, number):
+    """The part that has too many atoms."""
+    text = QueryText(pathlib.Path("query.clio").read_bytes())
+    for place, part in enumerate(text.parts, 1):
+        if len(part.atoms) > number:
+            yield f"part {place} has {len(part.atoms)} atoms; {number} are allowed:"
+            yield from with_caret(text.content, part.word.start, len(part.word.text))
+            return
+
+
+def answer_cells(_, number):
+    """How wide the rows of the answer are."""
+    parts = QueryText(pathlib.Path("query.clio").read_bytes()).parts
+    if parts:
+        width = len(parts[0].answer)
+        yield f"the answer has rows of {amount(width, 'cell')}, and more than {number // width:,} of them; {number:,} cells are allowed"
+
+
+def given_cells(text, number):
+    """The cells of each file of a given target."""
+    total = 0
+    for table in tables_of(text.target):
+        path = pathlib.Path("given", table.name + ".csv")
+        if path.is_file():
+            count = max(sum(1 for _ in records(path.read_bytes())) - 1, 0)
+            total += count * len(table.columns)
+            yield (f"   {path}: {amount(count, 'record')} of {amount(len(table.columns), 'column')}, {count * len(table.columns):,} cells"
+                   + (" (passes it)" if total > number >= total - count * len(table.columns) else ""))
+    yield f"the files have {total:,} cells in all; {number:,} are allowed"
+
+
+def tables(text, number):
+    for side in "source", "target":
+        yield f"the {side} has {amount(len(text.side(side)), 'set')}; {number} are allowed"
+
+
+def columns(text, number):
+    for side in "source", "target":
+        for table in text.side(side):
+            roots = text.source if side == "source" else text.target
+            own = bool(table.inner) + all(table is not root for root in roots)
+            if len(table.columns) + own > number:
+                with_ids = f" with {' and '.join(['#id'] * bool(table.inner) + ['#up'] * (own - bool(table.inner)))}" if own else ""
+                yield f"the set {table.name} of the {side} has {amount(len(table.columns) + own, 'column')}{with_ids}; {number} are allowed:"
+                yield from with_caret(text.content, table.name.start, len(table.name))
+                return
+
+
+def depth(text, number):
+    if isinstance(text.refusal, Limit):
+        yield f"this set would be number {number + 1} of those that stand in each other:"
+        yield from with_caret(text.content, text.reader.began, 3)
+
+
+def lines(text, number):
+    conditions = f" and {amount(len(text.conditions), 'condition')}" if text.conditions else ""
+    yield f"the mapping has {amount(len(text.lines), 'line')}{conditions}; {number} are allowed"
+
+
+def variants(text, number):
+    """The ways to follow the optional refs of each side, where they are too many."""
+    for side, trees in ("source", text.source), ("target", text.target):
+        tables_ = tables_of(trees)
+        ways = sorted(((number_of_choices(tables_, place), table.name) for place, table in enumerate(tables_)), reverse=True)
+        if sum(count for count, _ in ways) > number:
+            yield (f"the refs of the {side} can be followed or not in {sum(count for count, _ in ways):,} ways; {number} are allowed: "
+                   + ", ".join(f"{name} ({count:,})" for count, name in ways[:5]))
+
+
+def unfolded(tables_, number, known):
+    """How many tables follow from one along its links, with itself."""
+    if number not in known:
+        known[number] = 1 + sum(unfolded(tables_, link.table, known) for link in tables_[number].every_link())
+    return known[number]
+
+
+def occurrences(text, number):
+    """The tables from which too many follow; else the rule that has too many atoms, or gets them by refs."""
+    found = False
+    for side, trees in ("source", text.source), ("target", text.target):
+        tables_, known = tables_of(trees), {}
+        for place, table in enumerate(tables_):
+            if unfolded(tables_, place, known) > number and text.lines:
+                found = True
+                yield (f"from {table.name} of the {side} follow {known[place]:,} tables along refs, itself among them; {number} are allowed: "
+                       + ", ".join(f"{tables_[link.table].name} ({known[link.table]:,})" for link in table.every_link()))
+    if not found:
+        mapping = read_mapping(text.content)
+        for place, rule in enumerate(mapping.rules):
+            try:
+                closed(rule, mapping.target)
+                if len(rule.premise) <= OCCURRENCES:
+                    continue
+            except Limit:
+                pass
+            yield f"rule {place + 1} of those written by hand has {len(rule.premise)} sets on its left, and with what refs add too many on one side:"
+            first = text.rules[place].premise[0].name
+            yield from with_caret(text.content, first.start, len(first.text))
+            return
+
+
+def pairs_of(text):
+    """The pairs of a source and a target table, each in all ways to follow its refs, with the values that lines give."""
+    mapping = read_mapping(text.content)
+    for one, sources in enumerate(variants_of(mapping.source)):
+        for other, targets in enumerate(variants_of(mapping.target)):
+            for source, target in itertools.product(sources, targets):
+                yield mapping.source[one].name, mapping.target[other].name, ways_of(mapping.lines, source, target)
+
+
+def ways(text, number):
+    for one, other, found in pairs_of(text):
+        count = sum(map(len, found.values()))
+        if count > WAYS:
+            yield f"lines give {count:,} values from {one}, with what its refs lead to, to {other} with what its refs lead to; {number} are allowed"
+
+
+def candidates(text, number):
+    counted = sorted(((number_of_candidates(found), one, other) for one, other, found in pairs_of(text)), reverse=True)
+    yield f"{amount(sum(count for count, _, _ in counted), 'combination')} of values in all; {number:,} are allowed"
+    for count, one, other in counted[:5]:
+        if count > 1:
+            yield f"   from {one} to {other}: {count:,}"
+
+
+def rules(text, number):
+    mapping = read_mapping(text.content)
+    made = len(rules_of_lines(mapping.lines, mapping.source, mapping.target))
+    yield f"lines make {amount(made, 'rule')}, and {amount(len(mapping.rules), 'rule')} stand in the text; {number} are allowed in all"
+
+
+def frozen_cells(text, number):
+    """The rules whose left sides make most matches, when it is looked whether they follow from others."""
+    mapping = read_mapping(text.content)
+    all_rules = rules_of_lines(mapping.lines, mapping.source, mapping.target) + mapping.rules
+    most = []
+    for place, rule in enumerate(all_rules):
+        tables_ = [atom.table for atom in rule.premise]
+        own = 1
+        for table in tables_:
+            own *= tables_.count(table)
+        most.append((own * len(rule.conclusion_cells()), own, place, rule))
+    for cells, own, place, rule in sorted(most, key=lambda one: -one[0])[:3]:
+        names = ", ".join(f"{mapping.source[table].name} {[atom.table for atom in rule.premise].count(table)} times"
+                          for table in dict.fromkeys(atom.table for atom in rule.premise))
+        yield f"rule {place} (before any is left out) has on its left {names}: up to {own:,} matches of its own, {cells:,} cells; {number:,} are allowed"
+
+
+def data_bytes(text, number):
+    total = 0
+    for table in tables_of(text.source):
+        if table.parent is None and os.path.isfile(file_of(table)):
+            size = os.path.getsize(file_of(table))
+            total += size
+            yield f"   {file_of(table)}: {size:,} bytes" + (" (passes it)" if total > number >= total - size else "")
+    yield f"the source files have {total:,} bytes in all; {number:,} can be read"
+
+
+def source_cells(text, number):
+    total, tables_ = 0, tables_of(text.source)
+    for table in tables_:
+        if table.parent is None and not table.inner and os.path.isfile(file_of(table)):
+            count = sum(1 for _ in records(pathlib.Path(file_of(table)).read_bytes())) - 1
+            total += count * len(table.columns)
+            yield f"   {file_of(table)}: {amount(count, 'record')} of {amount(len(table.columns), 'column')}, {count * len(table.columns):,} cells"
+        elif table.parent is None and table.inner:
+            yield f"   {file_of(table)}: a document of {os.path.getsize(file_of(table)):,} bytes, whose objects count with #id and #up"
+    yield f"the tables have {total:,} cells in all; {number:,} are allowed"
+
+
+def target_cells(text, number):
+    """The cells that each rule makes."""
+    mapping, printed = mapping_of(text.content)
+    if mapping is None:
+        return
+    source, total = Source(mapping), 0
+    for place, rule in enumerate(mapping.rules):
+        cells = len(rule.conclusion_cells())
+        try:
+            count = len(Matches(rule, source, most_tuples=number // cells + 1).found)
+        except TooMany:
+            yield f"   rule {place}: more than {number:,} cells: {visible(printed[place])[:300]}"
+            continue
+        total += count * cells
+        yield f"   rule {place}: {amount(count, 'match', 'matches')} of {cells} cells, {count * cells:,}: {visible(printed[place])[:300]}"
+    yield f"the rules make {total:,} cells" + (f"; {number:,} are allowed" if total > number else " besides")

@@ -1,0 +1,101 @@
+"""The source files as rows that know where they are from."""
+import json
+import pathlib
+from array import array
+
+from clio_tools.csv import MARK, records, text
+from sources import Walk
+
+from clio_tools.explain.said import shown, visible
+
+
+class WalkWithPaths(Walk):
+    """Walks a document and takes down for each fact the path of its object."""
+
+    def __init__(self, tables, file):
+        super().__init__(tables, file)
+        self.paths = {}
+
+    def object(self, number, value, path, identity, up):
+        place = len(self.facts)
+        super().object(number, value, path, identity, up)
+        self.paths[place] = path
+
+
+class Rows:
+    """The different rows of a table in the order of the file, the place of each, and how many records repeat one."""
+
+    def __init__(self, is_document):
+        self.rows, self.seen, self.repeats, self.records = [], set(), 0, 0
+        self.paths, self.entries, self.lines = [] if is_document else None, array("l"), array("l")
+
+    def add(self, row, place):
+        self.records += 1
+        if row in self.seen:
+            self.repeats += 1
+            return
+        self.seen.add(row)
+        self.rows.append(row)
+        if self.paths is not None:
+            self.paths.append(place)
+        else:
+            self.entries.append(place[0])
+            self.lines.append(place[1])
+
+    def place(self, row):
+        """The path of the object that a row is, or the number and the line of its record."""
+        return (self.entries[row], self.lines[row]) if self.paths is None else self.paths[row]
+
+
+class Source:
+    """The rows of each table of a mapping's source that pass its conditions, read from the files of the current folder."""
+
+    def __init__(self, mapping):
+        self.tables, self.mapping = mapping.source, mapping
+        self.rows = [Rows(table.parent is not None or bool(table.inner)) for table in self.tables]
+        self.failing = [0] * len(self.tables)  # how many records of each table don't pass
+        for number, table in enumerate(self.tables):
+            if table.parent is None:
+                self.read(number, table)
+        for rows in self.rows:
+            rows.seen = None
+
+    def read(self, number, table):
+        """Reads the file of a root."""
+        content = pathlib.Path(file_of(table)).read_bytes()
+        if table.inner:
+            walk = WalkWithPaths(self.tables, file_of(table))
+            walk.objects(number, json.loads(content.removeprefix(MARK)), "", "#", None)
+            for place, (inner, row) in enumerate(walk.facts):
+                self.add(inner, row, walk.paths[place])
+            return
+        entries = records(content)
+        next(entries)
+        for place, (line, fields) in enumerate(entries, 1):
+            self.add(number, tuple([text(field) for field in fields]), (place, line))
+
+    def add(self, number, row, place):
+        """A row of a table, if it passes."""
+        if self.mapping.passes(number, row):
+            self.rows[number].add(row, place)
+        else:
+            self.failing[number] += 1
+
+    def root(self, number):
+        """The root of a table."""
+        while self.tables[number].parent is not None:
+            number = self.tables[number].parent
+        return self.tables[number]
+
+    def shown_row(self, number, row):
+        """A row with its file and its place there."""
+        table, place = self.tables[number], self.rows[number].place(row)
+        where = f"{file_of(self.root(number))}{place}" if isinstance(place, str) else f"{file_of(table)}, line {place[1]} (record {place[0]})"
+        cells = [f"{visible(name)} = {shown(value, 40)}" for name, value in zip(table.columns, self.rows[number].rows[row])
+                 if not name.startswith("#")]
+        return f"{where}: " + ", ".join(cells[:8]) + (", .." if len(cells) > 8 else "")
+
+
+def file_of(table):
+    """The file of a root."""
+    return table.name + (".json" if table.inner else ".csv")

@@ -1,0 +1,122 @@
+"""Writes the target's tables out of a database, as `clio judge` reads them.
+
+    clio-given sqlite FILE [OPTION ..]
+    clio-given postgres CONNINFO [SCHEMA] [OPTION ..]
+
+For each set of the target of mapping.clio it reads the table of this name, and writes its columns, in the mapping's order, into `given/<set>.csv`. Other tables
+and columns are left out. A name that is no word of a mapping text is taken as clio-draft would write it.
+
+Each NULL becomes a null of its own, `?0.0.0`, `?0.0.1` and so on: what is not known there, and nothing is said of it. All other values are texts, as clio-draft writes
+them (numbers as their digits), with one `?` more in front if one begins with `?`.
+
+OPTIONS
+`--surrogate SET.COLUMN` says that the values of this column are made up, as numbers from a sequence are: each becomes a null, the same one wherever it stands in the
+column, and in the columns that a ref of the mapping links to it. It can be given several times.
+
+`--mapping FILE` is another mapping text than mapping.clio, and `--into FOLDER` another folder than given.
+
+This tool is not proved; its tests try it. PostgreSQL is read by `psql`: CONNINFO is what `psql -d` takes, and SCHEMA is public if it is left out.
+"""
+import argparse
+import pathlib
+
+from clio_tools.draft import postgres, sqlite
+from clio_tools.csv import record_text
+from clio_tools.program import Refused, run
+from clio_tools.draft.model import Side, find_set
+from clio_tools.draft.names import shown
+from clio_tools.mapping.text import read_sets
+
+
+def words_of(words):
+    parser = argparse.ArgumentParser(prog="clio-given", description="Writes the target's tables out of a database, as clio judge reads them.",
+                                     epilog="The manual is man clio-given.")
+    parser.add_argument("kind", choices=["sqlite", "postgres"])
+    parser.add_argument("place", metavar="FILE|CONNINFO")
+    parser.add_argument("schema", nargs="?", default="public", metavar="SCHEMA")
+    parser.add_argument("--surrogate", action="append", default=[], metavar="SET.COLUMN", help="a column whose values become nulls")
+    parser.add_argument("--mapping", default="mapping.clio", metavar="FILE")
+    parser.add_argument("--into", default="given", metavar="FOLDER")
+    given = parser.parse_args(words)
+    if given.kind == "sqlite" and given.schema != "public":
+        parser.error("an SQLite file has no schema")
+    return given
+
+
+class Domains:
+    """The columns that hold the same made-up values: for each its domain's name, and none for all others."""
+
+    def __init__(self, sets, surrogates):
+        named = {one.name: one for one in sets}
+        self.of = {}
+        for text in surrogates:
+            name, _, column = text.partition(".")
+            if name not in named or column not in named[name].columns:
+                raise Refused(f"--surrogate {text}: the target has no such column")
+            self.of.setdefault((name, column), text)
+        pairs = [((one.name, own), (other, referred)) for one in sets for columns, other, listed in one.links + one.optional_refs
+                 for own, referred in zip(columns, listed)]
+        while joined := [(one, other) for one, other in pairs if (one in self.of) != (other in self.of)]:
+            for one, other in joined:
+                self.of.setdefault(one, self.of.get(other))
+                self.of.setdefault(other, self.of.get(one))
+
+
+class Nulls:
+    """Names for nulls: a new one for each NULL, and one for each made-up value."""
+
+    def __init__(self):
+        self.count = 0
+        self.named = {}
+
+    def fresh(self):
+        self.count += 1
+        return f"?0.0.{self.count - 1}"
+
+    def value(self, cell, domain):
+        """The value text of a cell."""
+        if cell is None:
+            return self.fresh()
+        if domain is not None:
+            if (domain, cell) not in self.named:
+                self.named[domain, cell] = self.fresh()
+            return self.named[domain, cell]
+        return "?" + cell if cell.startswith("?") else cell
+
+
+def target_of(path):
+    try:
+        return read_sets(pathlib.Path(path).read_text(encoding="utf-8", errors="replace"))["target"]
+    except ValueError as error:
+        raise Refused(f"{path}: {error}") from None
+
+
+def places_of(table, one):
+    """Where the set's columns stand among those of the table."""
+    names = [column.word if column.name not in ("#id", "#up") else column.name for column in table.said]
+    missing = [column for column in one.columns if column not in names]
+    if missing:
+        raise Refused(f"{shown(table.name)} has no column for {', '.join(missing)} of the set {one.name}: it has {', '.join(names)}")
+    return [names.index(column) for column in one.columns]
+
+
+def work(words):
+    given = words_of(words)
+    sets = target_of(given.mapping)
+    domains, nulls = Domains(sets, given.surrogate), Nulls()
+    base = sqlite.Base(given.place) if given.kind == "sqlite" else postgres.Base(given.place, given.schema)
+    side = Side("target", base.tables())
+    tables = [find_set(side, one.name) for one in sets]
+    places = [places_of(table, one) for table, one in zip(tables, sets)]
+    folder = pathlib.Path(given.into)
+    folder.mkdir(parents=True, exist_ok=True)
+    pairs = base.all_rows(tables) if given.kind == "postgres" else ((table, base.rows(table)) for table in tables)
+    for one, listed, (_, rows) in zip(sets, places, pairs):
+        with open(folder / f"{one.name}.csv", "w", newline="", encoding="utf-8") as file:
+            file.write(record_text(one.columns))
+            for row in rows:
+                file.write(record_text([nulls.value(row[place], domains.of.get((one.name, column))) for place, column in zip(listed, one.columns)]))
+
+
+def main():
+    run("clio-given", work)

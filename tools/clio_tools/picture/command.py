@@ -1,0 +1,40 @@
+"""Draws the picture of a mapping as SVG.
+
+    clio-picture [FOLDER] > mapping.svg
+
+It draws the mapping.clio of FOLDER, or of the current folder: on the left the sets of the source, on the right those of the target, inner sets inside
+theirs, with their keys, and with their dependencies below the columns; refs beside the boxes, with a tip where they lead to, optional ones with dashes;
+lines from column to column, with the conversion or the text on them; and beside a column of the source what a condition asks of it, like "only filled".
+The sets stand in an order in which few lines cross. Below are the rules that are written by hand, each as a figure: the sets that it asks for, the
+sets that it makes, and what its variables join.
+
+A browser shows it, light or dark as it is set; under the pointer a line stands out, and its text in the mapping is told. It has no script and loads
+nothing. A mapping that clio refuses is refused with clio's message; `clio-explain show` says more. It is not proved, but has tests.
+"""
+import os
+import pathlib
+import sys
+
+from clio_tools.program import Refused, run
+from clio_tools.picture.whole import Picture
+from grammar import Reader
+from names import read_mapping
+from refusals import Refusal
+
+USAGE = "usage: clio-picture [FOLDER] > mapping.svg; the manual is man clio-picture"
+
+
+def work(words):
+    if len(words) > 1 or words[:1] and words[0].startswith("-"):
+        raise Refused(USAGE)
+    path = pathlib.Path(words[0] if words else ".") / "mapping.clio"
+    content = path.read_bytes()
+    try:
+        mapping, rules = read_mapping(content), Reader(content).mapping()[-1]
+    except Refusal as refusal:
+        raise Refused(f"{path}: {refusal.message}") from None
+    sys.stdout.write(Picture(mapping, rules, os.path.basename(os.path.realpath(path.parent))).drawn())
+
+
+def main():
+    run("clio-picture", work)

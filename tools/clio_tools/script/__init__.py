@@ -1,0 +1,1 @@
+"""The script that clio wrote, as PostgreSQL runs it."""

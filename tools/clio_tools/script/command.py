@@ -1,0 +1,105 @@
+"""Turns the script that clio writes, script.sql, into SQL that PostgreSQL runs as it is.
+
+    clio-script-to-postgres < out/script.sql > run.sql
+    clio show | grep -v '^rule ' | clio-script-to-postgres > run.sql
+
+run.sql reads the tables of the schema `source` and makes those of the schema `target`; match tables and functions are in
+the schema `clio`, which it makes anew, and which can be dropped afterwards. A source table's columns are texts and never NULL:
+
+    CREATE VIEW source."emp" AS SELECT coalesce(name::text, '') AS "name" FROM hr.employee;
+
+puts a table of yours there; clio-tables source loads files. What is turned into what:
+
+    CREATE TABLE m0 AS SELECT ..   the same, with a column `place`: the row's number, by the bytes of its texts, from 0
+    SKOLEM(0, 1, m.place)          a function, which gives the text ?0.1.place
+    "trim", "digits", "pair"       functions
+    m.c0, 'text' in an INSERT      the text as clio writes it: one that begins with ? gets one ? more
+    INSERT INTO ..                 of rows that are not there yet
+
+The steps stand one on a line, as clio writes them. The target then has what clio's target has before keys make rows one, and in core mode before rows are folded into others.
+This tool is not proved; dev/check compares what it makes with what clio makes, on the examples.
+"""
+import re
+import sys
+
+from clio_tools.program import Refused, run
+
+MATCH = re.compile(r"CREATE TABLE (m[0-9]+) AS (SELECT DISTINCT (.*?) FROM source\..*);")
+KEEP = re.compile(r"CREATE TABLE (k[0-9]+) AS SELECT \* FROM m[0-9]+ AS m WHERE .*;")
+CREATE = re.compile(r"CREATE TABLE target\.\"[^\"]+\" \(.*\);")
+INSERT = re.compile(r"INSERT INTO (target\.\"[^\"]+\") SELECT (.*) FROM ([mk][0-9]+) AS m;")
+
+HEAD = r"""\set ON_ERROR_STOP on
+SET client_encoding = 'UTF8';
+SET standard_conforming_strings = on;
+DROP SCHEMA IF EXISTS clio CASCADE;
+CREATE SCHEMA clio;
+CREATE SCHEMA IF NOT EXISTS target;
+SET search_path = clio;
+CREATE FUNCTION clio.skolem(rule bigint, variable bigint, place bigint) RETURNS text LANGUAGE sql IMMUTABLE
+  AS $$ SELECT '?' || rule::text || '.' || variable::text || '.' || place::text $$;
+CREATE FUNCTION clio.written(value text) RETURNS text LANGUAGE sql IMMUTABLE
+  AS $$ SELECT CASE WHEN value LIKE '?%' THEN '?' || value ELSE value END $$;
+CREATE FUNCTION clio."trim"(value text) RETURNS text LANGUAGE sql IMMUTABLE AS $$ SELECT btrim(value, ' ') $$;
+CREATE FUNCTION clio."digits"(value text) RETURNS text LANGUAGE sql IMMUTABLE
+  AS $$ SELECT regexp_replace(value, '[^0123456789]', '', 'g') $$;
+CREATE FUNCTION clio."pair"(one text, other text) RETURNS text LANGUAGE sql IMMUTABLE AS $$ SELECT one || ' ' || other $$;
+"""
+
+
+def split(text):
+    """The parts of a list at the commas that stand in no parentheses and no quotes."""
+    parts, depth = [""], 0
+    for piece in re.findall(r"'(?:[^']|'')*'|\"[^\"]+\"|.", text, re.DOTALL):
+        depth += (piece == "(") - (piece == ")")
+        if piece == "," and depth == 0:
+            parts.append("")
+        else:
+            parts[-1] += piece
+    return [part.strip() for part in parts]
+
+
+def match_rows(table, query, select):
+    columns = re.findall(r" AS (c[0-9]+)", select)
+    if not columns:
+        return f"CREATE TABLE {table} AS SELECT 0::bigint AS place FROM ({query}) AS d;"
+    order = ", ".join(f'{column} COLLATE "C"' for column in columns)
+    return f"CREATE TABLE {table} AS SELECT *, row_number() OVER (ORDER BY {order}) - 1 AS place FROM ({query}) AS d;"
+
+
+def insert_rows(target, outs, table, filled):
+    cells = ", ".join(out if out.startswith("SKOLEM") else f"written({out})" for out in split(outs))
+    if target not in filled:
+        filled.add(target)
+        return f"INSERT INTO {target} SELECT DISTINCT {cells} FROM {table} AS m;"
+    return f"INSERT INTO {target} (SELECT {cells} FROM {table} AS m EXCEPT SELECT * FROM {target});"
+
+
+def turned(step, filled):
+    """What PostgreSQL runs for a step, when rows were already put into the tables `filled`."""
+    if found := MATCH.fullmatch(step):
+        return f"{match_rows(*found.groups())}\nANALYZE {found.group(1)};"
+    if found := INSERT.fullmatch(step):
+        return insert_rows(*found.groups(), filled)
+    if KEEP.fullmatch(step) or CREATE.fullmatch(step):
+        return step
+    raise Refused(f"this is no step of a script that clio writes: {step[:200]}")
+
+
+def work(words):
+    if words:
+        raise Refused("usage: clio-script-to-postgres < script.sql > run.sql; the manual is man clio-script-to-postgres")
+    try:
+        steps = sys.stdin.buffer.read().decode("utf-8").split("\n")
+    except UnicodeDecodeError as error:
+        raise Refused(f"the script is not UTF-8: {error}") from None
+    for name in re.findall(r"\"([^\"]+)\"", "".join(re.sub(r"'(?:[^']|'')*'", "", step) for step in steps)):
+        if len(name) > 63:
+            raise Refused(f"PostgreSQL cuts the name {name} after 63 letters")
+    filled = set()
+    turned_steps = [turned(step, filled) for step in steps if step]
+    print(HEAD + "\n".join(turned_steps))
+
+
+def main():
+    run("clio-script-to-postgres", work)

@@ -1,0 +1,1 @@
+"""The SQL that puts the tables of a mapping into a database."""
