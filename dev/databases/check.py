@@ -183,7 +183,10 @@ def try_shop(postgres, top):
 
 def try_manual(postgres):
     """The commands of the README and of the manual, those that need a server too."""
-    place = {**os.environ, "PGHOST": str(postgres.base), "PGUSER": "clio", "SERVER": "yes"}
+    programs = postgres.base / "programs"
+    programs.mkdir()
+    (programs / "python3").symlink_to(sys.executable)  # the one that has psycopg
+    place = {**os.environ, "PGHOST": str(postgres.base), "PGUSER": "clio", "SERVER": "yes", "PATH": f"{programs}:{os.environ['PATH']}"}
     done = subprocess.run([TOP / "dev/check-docs"], env=place, stdin=subprocess.DEVNULL, stdout=subprocess.PIPE, text=True, check=False)
     if done.returncode or "it needs a server" in done.stdout:
         raise Differs(f"dev/check-docs with a server says\n{done.stdout}")

@@ -23,8 +23,9 @@ its columns in another order, or a database with more tables, is read by a mappi
 `--delimiter SIGN` is the sign between the fields of the files: a single one, or tab, comma, semicolon or pipe. It is a comma if it is left out.
 
 PLACES
-SQLite is read by Python's own module, in one transaction. PostgreSQL is read by `psql`: CONNINFO is what `psql -d` takes (a name of a
-database, a URI, `host=.. dbname=..`), and SCHEMA is public if it is left out. Views, and parts of partitioned tables, are no tables here.
+SQLite is read by Python's own module, in one transaction. PostgreSQL is read by psycopg 3 (`pip install 'psycopg[binary]'`, Debian:
+python3-psycopg): CONNINFO is what `psql -d` takes (a name of a database, a URI, `host=.. dbname=..`), and SCHEMA is public if it is left
+out. Views, and parts of partitioned tables, are no tables here.
 
 A folder has a table in each file .csv or .tsv. A quote that is never closed, text after a closing quote, and a record of another width than the header are refused.
 

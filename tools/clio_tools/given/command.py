@@ -15,7 +15,8 @@ column, and in the columns that a ref of the mapping links to it. It can be give
 
 `--mapping FILE` is another mapping text than mapping.clio, and `--into FOLDER` another folder than given.
 
-This tool is not proved; its tests try it. PostgreSQL is read by `psql`: CONNINFO is what `psql -d` takes, and SCHEMA is public if it is left out.
+This tool is not proved; its tests try it. PostgreSQL is read by psycopg 3 (Debian: python3-psycopg): CONNINFO is
+what `psql -d` takes, and SCHEMA is public if it is left out.
 """
 import argparse
 import pathlib
