@@ -294,10 +294,18 @@ class _Parser:
         if self.is_next("where"):
             self.note(self.here)
             tests = self.tests()
-        ends = [] if tests else ["where"] if source else ["from", "where"]
-        self.take(";", *(ends if self.drawing else []), *["by"] * bool(self.drawing and first and not source
-                                                                       and not tests and not arguments[0].by))
+        self.take(";", *(self.notes_left(first, arguments, source, tests) if self.drawing else []))
         return Line(word.start, self.before, literal, conversion, arguments, target, source, tests)
+
+    def notes_left(self, first: Optional[Argument], arguments: tuple[Argument, ...], source: Optional[Token],
+                   tests: tuple[Test, ...]) -> list[str]:
+        """The words and marks that can follow the notes of a line."""
+        if tests:
+            return [","]
+        if source:
+            return ["where"]
+        by = arguments[0].by if first else ()
+        return (["."] if by else ["by"] if first else []) + ["from", "where"]
 
     def line_from(self) -> tuple[Optional[Token], Optional[Token], tuple[Argument, ...]]:
         """What a line begins with, up to behind its arrow."""
@@ -371,7 +379,8 @@ class _Parser:
             self.at += 1
             musts = self.while_comma(self.steps)
         tests = self.tests() if self.is_next("where") else ()
-        ends = [] if tests else ["where"] if musts else ["with", "where"] if by else ["by", "with", "where"]
+        ends = [","] if tests else [".", ",", "where"] if musts else [".", "with", "where"] if by else ["by", "with",
+                                                                                                        "where"]
         self.take(";", *ends)
         return Rows(word.start, self.before, target, source, by, musts, tests)
 

@@ -1,0 +1,80 @@
+"""Writes the printed mapping and the files that it takes, and nothing of anyone else's."""
+import os
+import pathlib
+import tempfile
+
+from ..program import Refused
+from .printed import Printed, is_as_printed, marked
+
+
+def write(folder: pathlib.Path, made: Printed, name: str) -> list[str]:
+    """Writes mapping.clio and what it takes; answers the names of what was changed. All is looked at before the first
+    write."""
+    mapping = folder / "mapping.clio"
+    _look_at_mapping(mapping, name)
+    files = made.sets.files()
+    links = made.sets.links()
+    for file, content in files.items():
+        _look_at_file(folder / file, content)
+    for file, of in links.items():
+        _look_at_link(folder / file, of)
+    written = [file for file, content in files.items() if _put(folder / file, content)]
+    for file, of in links.items():
+        if not os.path.islink(folder / file):
+            os.symlink(of, folder / file)
+            written.append(file)
+    return written + ["mapping.clio"] * _put(mapping, marked(made.text, name))
+
+
+def _look_at_mapping(path: pathlib.Path, name: str) -> None:
+    """Refuses a mapping that was not printed here, or was edited since."""
+    if path.is_symlink():
+        raise Refused(f"{path} is a link, and clio-rules writes through none: take it away first")
+    if not path.exists():
+        return
+    printed = is_as_printed(path.read_text(encoding="utf-8", errors="replace"))
+    if printed is None:
+        raise Refused(f"{path} wasn't printed by clio-rules: move it away first, or rename it to {name} if it is the "
+                      f"drawing")
+    if not printed:
+        raise Refused(f"{path} was edited by hand since clio-rules printed it: bring the edit into {name}, and take "
+                      f"{path.name} away")
+
+
+def _look_at_file(path: pathlib.Path, content: str) -> None:
+    """Refuses a file with another content than a set for a test has."""
+    if path.is_symlink() or (path.exists() and path.read_text(encoding="utf-8", errors="replace") != content):
+        raise Refused(f"{path} is there, with another content than `where` takes: rename it, and its set")
+
+
+def _look_at_link(path: pathlib.Path, of: str) -> None:
+    """Refuses what is in the place of a second name of a file, unless it is one."""
+    if path.is_symlink() and os.readlink(path) == of:
+        return
+    if path.is_symlink() or path.exists():
+        raise Refused(f"{path} is there, and `where` takes it as a second name of {of}: rename it, and its set")
+
+
+def _put(path: pathlib.Path, content: str) -> bool:
+    """Writes a file whole: first beside it, then in its place; one that has this content stays as it is."""
+    data = content.encode("utf-8")
+    if path.exists() and path.read_bytes() == data:
+        return False
+    handle, beside = tempfile.mkstemp(prefix=path.name + ".", dir=path.parent)
+    try:
+        with os.fdopen(handle, "wb") as file:
+            file.write(data)
+        mode = path.stat().st_mode & 0o777 if path.exists() else 0o666 & ~_mask()
+        os.chmod(beside, mode)
+        os.replace(beside, path)
+    except BaseException:
+        os.unlink(beside)
+        raise
+    return True
+
+
+def _mask() -> int:
+    """The bits of rights that new files don't have."""
+    mask = os.umask(0)
+    os.umask(mask)
+    return mask
