@@ -41,8 +41,8 @@ def limit(name, content, *wanted, files=None, words=("show",)):
 TEXTS = [
     Case("no mapping", {"my.clio": "", "sub/mapping.clio": ""}, 4, ["there is my.clio", "these folders have one: sub"], ("show",)),
     text("cut", "mapping 1; source {", "line 1, column 20:", "here can be `set` or `}`", "1 bracket not closed", "line 1, column 19:"),
-    text("a word of a later version", "mapping 1; source{set a{x; ref (x) -> b (x) optional;} set b{x;}}", "here can be `;`", "`optional` takes version 2: let the text begin with mapping 2;"),
-    text("a condition in version 1", SIDES + "only a.x filled;", "here can be `line` or `rule`", "`only` takes version 2"),
+    text("a word of a later version", "mapping 1; source{set a{x; ref (x) -> b (x) optional;} set b{x;}}", "`optional` takes version 2: begin with mapping 2;"),
+    text("a condition in version 1", SIDES + "only a.x filled;", "`only` takes version 2"),
     text("another version", "mapping 9;", "mapping 9;\n" + " " * 12 + "^", "here can be `1`"),
     text("a bracket in the place of a mark", "mapping 1;\r\nsource{set emp{name}}", "line 2, column 20:", "here can be `,` or `;`"),
     text("a hyphen", "mapping 1;source{set e-mail{x;}}", "column 23:", "a name has letters, digits and _ alone"),

@@ -11,7 +11,6 @@ import subprocess
 import sys
 import tempfile
 import unittest
-import unittest.mock
 
 from explain_cases import CASES, LARGE_CASES, TOLD
 from trial import PROGRAM, TIMES, TOOLS
@@ -23,7 +22,6 @@ from clio_tools.explain.joins import Matches
 from clio_tools.explain.key_chase import Canonical, KeyChase
 from clio_tools.explain.program import mapping_of
 from clio_tools.explain.source import Source
-import grammar
 from chase import Chase
 from matches import canonical, places_of
 from random_cases import random_case
@@ -91,10 +89,9 @@ class Explain(unittest.TestCase):
 
     def test_messages(self):
         """Messages of commands and of a version that a program need not know yet."""
-        with unittest.mock.patch.object(grammar, "VERSIONS", 3):
-            for case in TOLD:
-                with self.subTest(case.name), self.there(case.files):
-                    self.try_said("".join(line + "\n" for line in explained(case.status, case.message, list(case.words))), case.wanted)
+        for case in TOLD:
+            with self.subTest(case.name), self.there(case.files):
+                self.try_said("".join(line + "\n" for line in explained(case.status, case.message, list(case.words))), case.wanted)
 
     def test_dependencies(self):
         """The target of random mappings with dependencies is that of another chase, and so are clashes."""

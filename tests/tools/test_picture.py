@@ -2,7 +2,6 @@
 import itertools
 import random
 import unittest
-import unittest.mock
 import xml.etree.ElementTree as tree
 
 from trial import TIMES, Trial
@@ -10,10 +9,8 @@ from trial import TIMES, Trial
 from clio_tools.picture.ordering import crossings, ordered
 from clio_tools.picture.boxes import Box, stacked
 from clio_tools.picture.lines import Refs
-import grammar
 from random_cases import random_case
-from grammar import Reader
-from names import read_mapping
+from clio_tools.mapping.meaning import read_mapping
 from clio_tools.picture.whole import Picture
 
 SPACE = "{http://www.w3.org/2000/svg}"
@@ -48,7 +45,7 @@ line a.town -> addr.town;
 def drawn(content):
     """The picture of a mapping text, as a tree of XML."""
     content = content.encode()
-    return tree.fromstring(Picture(read_mapping(content), Reader(content).mapping()[-1], "a <name>").drawn())
+    return tree.fromstring(Picture(read_mapping(content), "a <name>").drawn())
 
 
 def titles(picture, kind):
@@ -83,8 +80,7 @@ class Pictures(Trial):
         self.assertEqual(marks, [("only filled, only numeric", heights["pay"]), ("only filled", heights["mname"])])
 
     def test_dependencies(self):
-        with unittest.mock.patch.object(grammar, "VERSIONS", 3):
-            picture = drawn(DEPENDENT)
+        picture = drawn(DEPENDENT)
         self.assertEqual(titles(picture, "dep"), ["dep (zip, street) -> (town)", "dep (town) -> (land)"])
         box = next(one for one in picture.iter(SPACE + "rect") if one.get("class") == "box" and float(one.get("x")) > 100)
         low = float(box.get("y")) + float(box.get("height"))
@@ -99,7 +95,7 @@ class Pictures(Trial):
         self.refused("clio-picture", "a", "b", why="usage")
         self.refused("clio-picture", "nowhere", why="nowhere/mapping.clio")
         self.file("mapping.clio", "mapping 1; source {")
-        self.refused("clio-picture", why="mapping.clio: mapping: text ended at byte 19")
+        self.refused("clio-picture", why="mapping.clio: line 1, column 20: the text ends here")
 
     def test_random(self):
         for number in range(40 * TIMES):

@@ -16,7 +16,6 @@ import unittest.mock
 from trial import PROGRAM, TIMES, TOP, Trial
 
 from clio_tools.explain import program as explain_program
-import grammar
 from clio_tools.csv import read_records, read_table
 from random_cases import random_case
 from clio_tools.report import sections
@@ -229,7 +228,7 @@ class Reports(Trial):
         for name, content in [("a.csv", "who,zip\nann,10\n"), ("b.csv", "zip,town\n10,Rome\n"), ("out/rules.txt", b"".join(rules)),
                               ("out/addr.csv", "who,town,zip\nann,Rome,10\n?1.0.0,Rome,10\n"), ("out/fold.csv", "null,value\n?0.0.0,Rome\n")]:
             self.file(name, content)
-        with unittest.mock.patch.object(grammar, "VERSIONS", 3), unittest.mock.patch.object(explain_program, "printed_rules", lambda: rules), contextlib.chdir(self.folder):
+        with unittest.mock.patch.object(explain_program, "printed_rules", lambda: rules), contextlib.chdir(self.folder):
             figures = Figures()
             page = "".join([*sections.target(figures), *sections.nulls(figures)])
         self.assertEqual(figures.variables, {(0, 0): {("key", "text"): 1}, (1, 0): {"stay": 1}})

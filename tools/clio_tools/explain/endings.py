@@ -3,7 +3,7 @@ import pathlib
 import re
 import signal
 
-from schema import tables_of
+from clio_tools.mapping.tables import tables_of
 
 from clio_tools.explain import clashes, document_faults, given_faults, mapping_faults, other_faults, query_faults, sizes, system_faults, table_faults, traps, verdicts
 from clio_tools.explain.placed import MappingText

@@ -1,5 +1,5 @@
 """The matches of a rule in the source, with the rows that each match is made of."""
-from matches import NAMED
+from clio_tools.mapping.meanings import CONVERSIONS
 
 MOST_STEPS = 20_000_000
 
@@ -77,7 +77,7 @@ class Matches:
     def keep(self):
         """Takes down a whole match."""
         for number, derived in enumerate(self.rule.derived, self.first):
-            self.values[number] = NAMED[derived.conversion].apply(*[self.values[one] for one in derived.arguments])
+            self.values[number] = CONVERSIONS[derived.conversion].apply(*[self.values[one] for one in derived.arguments])
         self.number += 1
         self.take(tuple([self.values[variable] for variable in self.exported]))
         if self.most_tuples is not None and len(self.found) > self.most_tuples:

@@ -5,7 +5,7 @@ A constant is a text, a null is a tuple of rule, variable and place. Two texts a
 from collections import deque
 from typing import NamedTuple
 
-from rules import EXISTENTIAL, VARIABLE
+from clio_tools.mapping.rules import EXISTENTIAL, VARIABLE
 
 
 class Origin(NamedTuple):

@@ -2,17 +2,15 @@
 import difflib
 import os
 import re
+from collections.abc import Iterator
 
-from matches import NAMED, TESTS
-from names import check_schema
-from refusals import Limit, Refusal
-from schema import tables_of
-
-from clio_tools.explain.placed import MappingText, open_marks, token_length
+from clio_tools.explain.placed import MappingText, is_told, open_marks, possible, token_length
+from clio_tools.mapping.meanings import CONVERSIONS, TESTS
+from clio_tools.mapping.places import Fault
+from clio_tools.mapping.schema import schema_of
+from clio_tools.mapping.tables import SetTree, tables_of
 from clio_tools.explain.said import amount, listed, visible, with_caret
 
-LATER = {"optional": (2, ";"), "only": (2, '"line"'), "dep": (3, '"key"')}  # the version that a word takes, and what can be in its place before
-KINDS = {"word": "a name", "string": 'a text in "', "->": "`->`"}
 CHARACTERS = {
     b"'": "texts are in \", not in '", b"#": "a comment begins with //", b"-": "a name has letters, digits and _ alone; an arrow is ->",
     b">": "an arrow is ->", b"/": "a comment begins with //", b"\xef": "if this is a byte order mark, take it off: sed -i '1s/^\\xef\\xbb\\xbf//' mapping.clio",
@@ -31,7 +29,7 @@ def explain(message, content):
         yield from at_byte(found[1], int(found[2]), text, message)
         return
     found = re.fullmatch(r"mapping: (source|target): (.*?) ([A-Za-z_][A-Za-z0-9_]*|#id|#up)", message)
-    if found and not text.refusal:
+    if found and not text.fault:
         yield from of_sets(found[1], found[2], found[3], text)
 
 
@@ -51,23 +49,22 @@ def absent():
 def at_byte(kind, place, text, message):
     """A fault at a byte: its line with carets, then what stands in its place or what exists."""
     yield from with_caret(text.content, place, token_length(text.content, place))
-    if kind in ("unexpected token", "text ended") and text.refusal and text.refusal.message == message:
-        yield "here can be " + " or ".join(KINDS.get(one, f"`{one.strip(chr(34))}`") for one in text.reader.allowed)
-        yield from of_version(place, text)
+    if kind in ("unexpected token", "text ended") and text.fault and is_told(text.fault, kind, place):
+        yield from of_token(text.fault)
     if kind == "text ended":
         yield from unclosed(text.content)
     elif kind == "bad character":
         yield from of_character(text.content, place)
-    elif kind in ("unknown name", "wrong number of cells", "unsafe variable") and not text.refusal:
+    elif kind in ("unknown name", "wrong number of cells", "unsafe variable") and not text.fault:
         yield from of_name(place, text)
 
 
-def of_version(place, text):
-    """A word of a later version of the mapping text than the one that its beginning names."""
-    word = text.content[place:place + token_length(text.content, place)].decode("utf-8", "replace")
-    version, beside = LATER.get(word, (0, None))
-    if version > text.reader.version and beside in text.reader.allowed:
-        yield f"`{word}` takes version {version}: let the text begin with mapping {version};"
+def of_token(fault: Fault) -> Iterator[str]:
+    """What could be in the place of a word that can't be there, or which version takes it."""
+    if fault.expected:
+        yield possible(fault)
+    if not fault.said.startswith(("unexpected ", "the text ends")):
+        yield fault.said
 
 
 def unclosed(content):
@@ -100,8 +97,8 @@ def of_name(place, text):
     tables = {"source": tables_of(text.source), "target": tables_of(text.target)}
     for line in text.lines:
         if line.conversion and line.conversion.start == place:
-            yield from of_conversion(line.conversion, line.columns)
-        for side, one in [("source", column) for column in line.columns] + [("target", line.target)]:
+            yield from of_conversion(line.conversion, line.arguments)
+        for side, one in [("source", column) for column in line.arguments] + [("target", line.target)]:
             if one.set.start == place:
                 yield from of_set(one.set.text, side, tables)
             elif one.column.start == place:
@@ -143,20 +140,20 @@ def of_atom(atom, side, tables):
         yield from of_set(atom.name.text, side, tables)
         return
     yield f"{amount(len(atom.cells), 'cell')} for {amount(len(table.columns), 'column')}: {table.name}({listed(table.columns, 64)})"
-    yield f"cells here: {listed((cell.text for cell in atom.cells), 64)}"
+    yield f"cells here: {listed((cell.value.text for cell in atom.cells), 64)}"
 
 
 def of_conversion(name, arguments):
     """A conversion that isn't there, or with too few or too many columns."""
-    if name.text in NAMED:
-        yield f"{name.text} takes {amount(NAMED[name.text].arity, 'column')}, and here are {len(arguments)}"
+    if name.text in CONVERSIONS:
+        yield f"{name.text} takes {amount(CONVERSIONS[name.text].arity, 'column')}, and here are {len(arguments)}"
         return
-    yield from close_ones("the conversions", name.text, NAMED)
+    yield from close_ones("the conversions", name.text, CONVERSIONS)
 
 
 def of_derived(rule, place):
     """What is wrong after `where`."""
-    variables = list(dict.fromkeys(cell.text for atom in rule.premise for cell in atom.cells))
+    variables = list(dict.fromkeys(cell.value.text for atom in rule.premise for cell in atom.cells))
     taken = list(variables)
     for one in rule.derived:
         if one.name.start == place:
@@ -177,35 +174,31 @@ def close_ones(what, name, names):
         yield f"perhaps {lower[alike[0]]}"
 
 
-def of_sets(side, kind, name, text):
+def of_sets(side: str, kind: str, name: str, text: MappingText) -> Iterator[str]:
     """A fault of the sets, keys and refs of a side."""
-    trees = text.source if side == "source" else text.target
-    if kind == "reserved name":
-        place = next(tree.name for tree in text.side("target") if tree.name == name)
-        yield from with_caret(text.content, place.start, len(name))
-        yield "clio writes files of its own called nulls.csv and fold.csv"
+    trees = text.side(side)
+    if kind in ("reserved name", "bad link in", "cyclic links at"):
+        tree = next(tree for tree in trees if tree.name == name)
+        yield from with_caret(text.content, tree.name.start, len(name))
+        if kind == "reserved name":
+            yield "clio writes files of its own called nulls.csv and fold.csv"
+        elif kind == "bad link in":
+            yield from uneven(tree)
+        else:
+            yield "the circle: " + circle(tables_of(text.source if side == "source" else text.target), name)
         return
-    try:
-        check_schema(trees, side)
+    faults = schema_of(text.tree.source if side == "source" else text.tree.target, side).faults
+    place = next((fault.start for fault in faults if fault.kind == kind), None)
+    if place is None:
         return
-    except Limit:
-        return
-    except Refusal as refusal:
-        place = refusal.name
-    if getattr(place, "start", None) is None:
-        return
-    yield from with_caret(text.content, place.start, len(name))
+    yield from with_caret(text.content, place, len(name))
     if kind == "double name":
-        yield from first_of(place, text.side(side), text.content)
+        yield from first_of(place, name, trees, text.content)
     elif kind == "unknown name":
-        yield from known_there(place, text.side(side))
-    elif kind == "bad link in":
-        yield from uneven(next(tree for tree in text.side(side) if tree.name is place))
-    elif kind == "cyclic links at":
-        yield "the circle: " + circle(tables_of(trees), name)
+        yield from known_there(place, name, trees)
 
 
-def first_of(place, trees, content):
+def first_of(place: int, name: str, trees: list[SetTree], content: bytes) -> Iterator[str]:
     """Where a name that is there twice is for the first time."""
     lists = [[tree.name for tree in trees]]
     for tree in trees:
@@ -215,27 +208,27 @@ def first_of(place, trees, content):
         for reference in tree.references:
             lists += [reference.own, reference.referred]
     for names in lists:
-        if any(one is place for one in names):
-            first = next(one for one in names if one == place)
-            if first is not place:
+        if any(one.start == place for one in names):
+            first = next(one for one in names if one == name)
+            if first.start != place:
                 yield "it is there already:"
                 yield from with_caret(content, first.start, len(first))
                 return
 
 
-def known_there(place, trees):
+def known_there(place: int, name: str, trees: list[SetTree]) -> Iterator[str]:
     """The columns or sets that a key, a dependency or a ref could name."""
-    named = {tree.name: tree for tree in trees}
+    named = {str(tree.name): tree for tree in trees}
     for tree in trees:
         sides = [side for dependency in tree.dependencies for side in dependency]
         for key in tree.keys + sides + [reference.own for reference in tree.references]:
-            if any(one is place for one in key):
-                yield from close_ones(f"the columns of {tree.name}", place, tree.columns)
+            if any(one.start == place for one in key):
+                yield from close_ones(f"the columns of {tree.name}", name, tree.columns)
         for reference in tree.references:
-            if reference.name is place:
-                yield from close_ones("the sets of this side", place, [other.name for other in trees])
-            elif any(one is place for one in reference.referred):
-                yield from close_ones(f"the columns of {reference.name}", place, named[reference.name].columns)
+            if reference.name.start == place:
+                yield from close_ones("the sets of this side", name, [other.name for other in trees])
+            elif any(one.start == place for one in reference.referred):
+                yield from close_ones(f"the columns of {reference.name}", name, named[reference.name].columns)
 
 
 def uneven(tree):

@@ -3,14 +3,11 @@ import os
 import shutil
 import subprocess
 
-from names import read_mapping
-from refusals import Refusal
-
-from clio_tools.explain.placed import MappingText
-from clio_tools.program import FINDER
+from clio_tools.mapping.meaning import Mapping, read_mapping
+from clio_tools.program import FINDER, Refused
 
 
-def program():
+def program() -> str:
     """The path of clio: the one on the path, or else the one that dev/program names."""
     found = shutil.which("clio")
     if found:
@@ -19,20 +16,23 @@ def program():
     return os.fsdecode(ended.stdout).strip()
 
 
-def printed_rules():
+def printed_rules() -> list[bytes] | None:
     """The lines of rules that `clio show` prints for the mapping in this folder."""
     ended = subprocess.run([program(), "show"], stdin=subprocess.DEVNULL, capture_output=True, check=False)
-    return [line + b"\n" for line in ended.stdout.split(b"\n") if line.startswith(b"rule ")] if ended.returncode == 0 else None
+    if ended.returncode:
+        return None
+    return [line + b"\n" for line in ended.stdout.split(b"\n") if line.startswith(b"rule ")]
 
 
-def mapping_of(content):
+def mapping_of(content: bytes) -> tuple[Mapping | None, list[str]]:
     """The mapping of a text, with the rules that clio prints in the place of its lines; and these rules as lines of text."""
     printed = printed_rules()
     if printed is None:
         return None, []
     try:
-        mapping = read_mapping(content[:MappingText(content).reader.sets_end] + b"\n" + b"".join(printed))
-        mapping.conditions = read_mapping(content).conditions
-    except Refusal:
+        written = read_mapping(content)
+        mapping = read_mapping(content[:written.end_of_sets] + b"\n" + b"".join(printed))
+    except Refused:
         return None, []
+    mapping.conditions = written.conditions
     return mapping, [line.decode().strip() for line in printed]

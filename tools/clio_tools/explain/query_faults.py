@@ -2,30 +2,20 @@
 import os
 import re
 
-from queries import QueryGrammar
-from refusals import Refusal
-from schema import tables_of
+from clio_tools.mapping.query import parse_query
+from clio_tools.mapping.tables import tables_of
 
-from clio_tools.explain.mapping_faults import KINDS, of_atom, of_character, unclosed
-from clio_tools.explain.placed import MappingText, PlacedReader, token_length
+from clio_tools.explain.mapping_faults import of_atom, of_character, unclosed
+from clio_tools.explain.placed import MappingText, is_told, possible, token_length
 from clio_tools.explain.said import amount, listed, visible, with_caret
 
 
-class PlacedQueryReader(QueryGrammar, PlacedReader):
-    """Reads the grammar of queries, and keeps where it stopped."""
-
-
 class QueryText:
-    """A query as far as it can be read: its parts, or the refusal that stopped the reading."""
+    """A query as far as it can be read: its parts, and the fault that stopped the reading."""
 
     def __init__(self, content):
-        self.content, self.refusal, self.parts = content, None, []
-        self.reader = PlacedQueryReader(content)
-        try:
-            for part in self.reader.query():
-                self.parts.append(part)
-        except Refusal as refusal:
-            self.refusal = refusal
+        self.content = content
+        self.parts, self.fault = parse_query(content)
 
 
 def explain(message, content, mapping):
@@ -52,13 +42,13 @@ def absent(tables):
 def at_byte(kind, place, text, sides):
     """A fault at a byte: its line with carets, then what stands in its place or what exists."""
     yield from with_caret(text.content, place, token_length(text.content, place))
-    if kind in ("unexpected token", "text ended") and text.refusal and text.refusal.message == f"mapping: {kind} at byte {place}":
-        yield "here can be " + " or ".join(KINDS.get(one, f"`{one.strip(chr(34))}`") for one in text.reader.allowed)
+    if kind in ("unexpected token", "text ended") and text.fault and text.fault.expected and is_told(text.fault, kind, place):
+        yield possible(text.fault)
     if kind == "text ended":
         yield from unclosed(text.content)
     elif kind == "bad character":
         yield from of_character(text.content, place)
-    elif not text.refusal:
+    elif not text.fault:
         yield from of_name(place, text.parts, sides)
 
 
@@ -74,5 +64,5 @@ def of_name(place, parts, sides):
             yield (f"part {number} answers {amount(len(part.answer), 'cell')}, and the first part {amount(len(parts[0].answer), 'cell')}: "
                    "all parts answer rows of one width")
         if any(cell.kind == "word" and cell.start == place for cell in part.answer):
-            variables = dict.fromkeys(cell.text for atom in part.atoms for cell in atom.cells if cell.kind == "word")
+            variables = dict.fromkeys(cell.value.text for atom in part.atoms for cell in atom.cells if cell.value.kind == "word")
             yield f"a variable that is answered must stand in a table of its part; those of part {number}: {listed(variables) or 'none'}"

@@ -4,18 +4,18 @@ import os
 import pathlib
 
 from clio_tools.csv import records
-from lines import number_of_candidates, number_of_choices, rules_of_lines, variants_of, ways_of
-from names import read_mapping
-from refusals import OCCURRENCES, WAYS, Limit
-from rules import closed
-from schema import tables_of
-
 from clio_tools.explain.joins import Matches, TooMany
 from clio_tools.explain.placed import MappingText
 from clio_tools.explain.program import mapping_of
 from clio_tools.explain.query_faults import QueryText
 from clio_tools.explain.said import amount, visible, with_caret
 from clio_tools.explain.source import Source, file_of
+from clio_tools.explain.ways import number_of_candidates, number_of_choices, rules_of_lines, variants_of, ways_of
+from clio_tools.mapping.meaning import read_mapping
+from clio_tools.mapping.rules import OCCURRENCES, TooLarge, closed
+from clio_tools.mapping.tables import tables_of
+
+WAYS = 64
 
 DATA = ("split the source where nothing joins across the cut, or run the script on a database of your own: "
         "clio show | grep -v '^rule ' | clio-script-to-postgres")
@@ -114,9 +114,9 @@ def columns(text, number):
 
 
 def depth(text, number):
-    if isinstance(text.refusal, Limit):
+    if text.fault and text.fault.kind == "depth":
         yield f"this set would be number {number + 1} of those that stand in each other:"
-        yield from with_caret(text.content, text.reader.began, 3)
+        yield from with_caret(text.content, text.fault.start, 3)
 
 
 def lines(text, number):
@@ -158,7 +158,7 @@ def occurrences(text, number):
                 closed(rule, mapping.target)
                 if len(rule.premise) <= OCCURRENCES:
                     continue
-            except Limit:
+            except TooLarge:
                 pass
             yield f"rule {place + 1} of those written by hand has {len(rule.premise)} sets on its left, and with what refs add too many on one side:"
             first = text.rules[place].premise[0].name

@@ -2,24 +2,43 @@
 import json
 import pathlib
 from array import array
+from typing import Any
 
 from clio_tools.csv import MARK, records, text
-from sources import Walk
-
 from clio_tools.explain.said import shown, visible
+from clio_tools.mapping.tables import Table
 
 
-class WalkWithPaths(Walk):
-    """Walks a document and takes down for each fact the path of its object."""
+class Walk:
+    """Walks a document that clio takes, and takes down its facts, each with the path of its object."""
 
-    def __init__(self, tables, file):
-        super().__init__(tables, file)
-        self.paths = {}
+    def __init__(self, tables: list[Table]) -> None:
+        self.tables = tables
+        self.facts: list[tuple[int, tuple[str, ...], str]] = []
 
-    def object(self, number, value, path, identity, up):
-        place = len(self.facts)
-        super().object(number, value, path, identity, up)
-        self.paths[place] = path
+    def objects(self, number: int, values: list[Any], path: str, identity: str, up: str | None) -> None:
+        """The objects of a set."""
+        for position, value in enumerate(values):
+            own = f"#{position}" if up is None else f"{identity}.{position}"
+            self.object(number, value, f"{path}/{position}", own, up)
+
+    def object(self, number: int, value: dict[str, Any], path: str, identity: str, up: str | None) -> None:
+        """One object, then those inside it."""
+        table = self.tables[number]
+        before = ([identity] if table.inner else []) + ([up] if up is not None else [])
+        self.facts.append((number, tuple(before + [member_text(value.get(column)) for column in table.tree.columns]), path))
+        for inner, tree in zip(table.inner, table.tree.inner):
+            if value.get(tree.name) is not None:
+                self.objects(inner, value[tree.name], f"{path}/{tree.name}", identity, identity)
+
+
+def member_text(value: object) -> str:
+    """The text of a member that is a column."""
+    if value is None:
+        return ""
+    if isinstance(value, bool):
+        return "true" if value else "false"
+    return str(value)
 
 
 class Rows:
@@ -64,10 +83,10 @@ class Source:
         """Reads the file of a root."""
         content = pathlib.Path(file_of(table)).read_bytes()
         if table.inner:
-            walk = WalkWithPaths(self.tables, file_of(table))
+            walk = Walk(self.tables)
             walk.objects(number, json.loads(content.removeprefix(MARK)), "", "#", None)
-            for place, (inner, row) in enumerate(walk.facts):
-                self.add(inner, row, walk.paths[place])
+            for inner, row, path in walk.facts:
+                self.add(inner, row, path)
             return
         entries = records(content)
         next(entries)

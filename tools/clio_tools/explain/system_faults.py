@@ -6,7 +6,7 @@ import select
 import stat
 import tempfile
 
-from schema import tables_of
+from clio_tools.mapping.tables import tables_of
 
 from clio_tools.explain.placed import MappingText
 from clio_tools.explain.said import amount, visible

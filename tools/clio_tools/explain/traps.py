@@ -2,9 +2,8 @@
 import pathlib
 
 from clio_tools.csv import ends_open, records
-from names import read_mapping
-from refusals import Limit
-from rules import EXISTENTIAL, LITERAL, VARIABLE, closed, printed as printed_rule
+from clio_tools.mapping.meaning import read_mapping
+from clio_tools.mapping.rules import EXISTENTIAL, LITERAL, VARIABLE, TooLarge, closed, printed as printed_rule
 
 from clio_tools.explain.joins import Matches, TooMany
 from clio_tools.explain.program import mapping_of
@@ -25,8 +24,8 @@ class Traps:
         self.by_hand = set()
         for rule in written.rules:
             try:
-                self.by_hand.add(printed_rule(closed(rule, self.target), self.source, self.target).strip())
-            except Limit:
+                self.by_hand.add(printed_rule(closed(rule, self.target), self.source, self.target))
+            except TooLarge:
                 pass
 
     def of_mapping(self):

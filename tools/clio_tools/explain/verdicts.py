@@ -4,7 +4,7 @@ import re
 import subprocess
 
 from clio_tools.csv import records
-from rules import EXISTENTIAL, VARIABLE
+from clio_tools.mapping.rules import EXISTENTIAL, VARIABLE
 
 from clio_tools.explain.given_faults import FOLDER
 from clio_tools.explain.joins import Matches, TooMany

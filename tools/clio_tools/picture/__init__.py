@@ -1,2 +1,1 @@
 """The picture of a mapping."""
-from clio_tools import reading  # noqa: F401

@@ -17,9 +17,7 @@ import sys
 
 from clio_tools.program import Refused, run
 from clio_tools.picture.whole import Picture
-from grammar import Reader
-from names import read_mapping
-from refusals import Refusal
+from clio_tools.mapping.meaning import read_mapping
 
 USAGE = "usage: clio-picture [FOLDER] > mapping.svg; the manual is man clio-picture"
 
@@ -30,10 +28,10 @@ def work(words):
     path = pathlib.Path(words[0] if words else ".") / "mapping.clio"
     content = path.read_bytes()
     try:
-        mapping, rules = read_mapping(content), Reader(content).mapping()[-1]
-    except Refusal as refusal:
-        raise Refused(f"{path}: {refusal.message}") from None
-    sys.stdout.write(Picture(mapping, rules, os.path.basename(os.path.realpath(path.parent))).drawn())
+        mapping = read_mapping(content)
+    except Refused as why:
+        raise Refused(f"{path}: {why}") from None
+    sys.stdout.write(Picture(mapping, os.path.basename(os.path.realpath(path.parent))).drawn())
 
 
 def main():

@@ -1,11 +1,18 @@
 """Rules that are written by hand, each as a small figure: what it asks for on the left, what it makes on the right, joined by the variables that they share."""
-from rules import EXISTENTIAL, LITERAL, quoted
+from clio_tools.mapping import tree
+from clio_tools.mapping.printing import quoted
+from clio_tools.mapping.rules import EXISTENTIAL, LITERAL
 
 from clio_tools.picture.svg import LETTER, PALETTE, ROW, cut, curve, group, path, pill, rectangle, text_at
 
 HEAD = 22
 GAP = 10
 BETWEEN = 110
+
+
+def value_text(cell: tree.Cell) -> str:
+    """A cell as it is written."""
+    return quoted(cell.value.text) if cell.value.kind == "string" else cell.value.text
 
 
 class AtomBox:
@@ -38,16 +45,17 @@ class Figure:
     def __init__(self, number, rule, text, mapping):
         self.title = f"rule {number} of those written by hand"
         self.rule, self.text, self.first = rule, text, rule.premise_variables()
-        self.left = [AtomBox(mapping.source[atom.table], [cell.text for cell in written.cells]) for atom, written in zip(rule.premise, text.premise)]
-        self.right = [AtomBox(mapping.target[atom.table], [quoted(cell.text) if cell.kind == "string" else cell.text for cell in written.cells])
+        self.left = [AtomBox(mapping.source[atom.table], [cell.value.text for cell in written.cells])
+                     for atom, written in zip(rule.premise, text.premise)]
+        self.right = [AtomBox(mapping.target[atom.table], [value_text(cell) for cell in written.cells])
                       for atom, written in zip(rule.conclusion, text.conclusion)]
-        self.names = {variable: cell.text for atom, written in zip(rule.premise, text.premise) for variable, cell in zip(atom.cells, written.cells)}
+        self.names = {variable: cell.value.text for atom, written in zip(rule.premise, text.premise) for variable, cell in zip(atom.cells, written.cells)}
         self.middle = max([BETWEEN] + [len(self.call(place)) * LETTER + 90 for place in range(len(rule.derived))])
 
     def call(self, place):
         """The conversion of a derived variable as it is written."""
         call = self.text.derived[place].call
-        return cut(f"{call.name.text}({', '.join(cell.text for cell in call.cells)})", 40)
+        return cut(f"{call.name.text}({', '.join(cell.value.text for cell in call.cells)})", 40)
 
     def sides(self):
         return [max(box.width() for box in boxes) for boxes in (self.left, self.right)]

@@ -1,5 +1,5 @@
 """The lines of a mapping, and the refs of a side."""
-from rules import quoted
+from clio_tools.mapping.printing import quoted
 
 from clio_tools.picture.svg import LETTER, PALETTE, ROW, cut, curve, group, path, pill
 

@@ -13,8 +13,8 @@ TOP = 52
 class Picture:
     """Both sides with the lines between them, and below them the rules that are written by hand."""
 
-    def __init__(self, mapping, rules, name):
-        self.mapping, self.texts, self.name = mapping, rules, name
+    def __init__(self, mapping, name):
+        self.mapping, self.texts, self.name = mapping, mapping.texts, name
         heights = heights_of(mapping.lines)
         tests = {}
         for condition in mapping.conditions:

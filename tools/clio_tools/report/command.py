@@ -22,8 +22,7 @@ from clio_tools.report.figures import Figures
 from clio_tools.report import sections
 from clio_tools.report.page import whole
 from clio_tools.picture.whole import Picture
-from grammar import Reader
-from names import read_mapping
+from clio_tools.mapping.meaning import read_mapping
 
 USAGE = "usage: clio-report [FOLDER] > report.html; the manual is man clio-report"
 
@@ -45,7 +44,7 @@ def write_not_used(figures):
 def picture_of_mapping(name):
     """The picture, from the mapping as it is written."""
     content = pathlib.Path("mapping.clio").read_bytes()
-    return sections.picture(Picture(read_mapping(content), Reader(content).mapping()[-1], name).drawn())
+    return sections.picture(Picture(read_mapping(content), name).drawn())
 
 
 def work(words):

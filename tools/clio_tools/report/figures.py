@@ -11,7 +11,7 @@ from clio_tools.explain.source import Source
 from clio_tools.explain.traps import used_cells
 from clio_tools.ids.nulls import Marks
 from clio_tools.ids.target import is_renamed
-from rules import EXISTENTIAL
+from clio_tools.mapping.rules import EXISTENTIAL
 
 AGAIN = "run clio exchange again"
 
