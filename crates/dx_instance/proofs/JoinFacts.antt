@@ -2,10 +2,11 @@
 use Rattle.std.proofs.Common.{◌≡◌, ◌∙◌, ◌+◌, ◌-◌, ◌<◌, ◌++◌, ◌∷◌, ℕ, List, [], refl, sym, ap, arith, length, get_or, take, drop, map, below_more}
 use Rattle.std.specs.Prelude.{IsUtf8}
 use Rattle.std.proofs.lemmas.List.{append_assoc, append-nil, length-append, drop_more, get_or_append_left, get_or_push, length_push, map_more, map-append, length-map, take-append-drop}
+use Rattle.std.proofs.lemmas.Str.{IsUtf8-append, IsUtf8-nil}
 use Rattle.std.proofs.Math.Seq.{drop-append_seam, take-append_seam}
 use Rattle.dx_model.specs.declared.values.Value.{Value}
 use Rattle.dx_model.specs.declared.values.Value.TheVariants.{Const, Null}
-use Rattle.dx_base.specs.Members.{Each}
+use Rattle.dx_base.specs.Members.{Each, here, there}
 use Rattle.dx_base.proofs.Members.{in_at}
 use Rattle.dx_instance.specs.Numbers.{value_of}
 use Rattle.dx_instance.specs.Keys.{places_of}
@@ -98,3 +99,9 @@ has_bytes (Null n) h = absurd (omega (arith, h))
 
 pub constant_is : (v : Value) (t : List ℕ) → v ≡ Const t → v ≡ Const (text_of_value v)
 constant_is v t e = e ∙ ap (λ (x : List ℕ). Const x) (ap text_of_value (sym e))
+
+-- texts one after the other are UTF-8, if each text is
+pub joined_utf8 : (S : List Value) (keys : List (ℕ × ℕ)) → ((n : ℕ) → n < length S → IsUtf8 (text_of_value (value_of S n))) → Each (places_of keys) (λ (n : ℕ). n < length S) → IsUtf8 (joined_texts (values_at S keys))
+joined_utf8 S [] u f = IsUtf8-nil
+joined_utf8 S (k ∷ keys) u f =
+    IsUtf8-append (text_of_value (value_of S k.1)) (joined_texts (values_at S keys)) (u k.1 (f k.1 (here refl))) (joined_utf8 S keys u (λ n m. f n (there m)))

@@ -4,6 +4,7 @@ ghost use Rattle.dx_instance.specs.Numbers.{Extends, IsOrdering, value_of};
 
 use crate::ordering::{Ordered, in_order};
 use crate::values::Values;
+use dx_base::no_number_left;
 use dx_model::Value;
 use std::alloc::{AllocError, Global};
 use std::hash::{BuildHasher, BuildHasherDefault, FoldHasher};
@@ -76,7 +77,7 @@ impl Gathered {
     {
         let number = self.values.len();
         if number >= 4_294_967_295 {
-            return Err(AllocError);
+            return Err(no_number_left(number as u64));
         }
         self.values.push(value)?;
         Ok(number as u64)

@@ -1,13 +1,11 @@
 // Instances: for each table a width and distinct rows, whose values stand as numbers.
 ghost use Rattle.std.specs.Prelude.{◌≡◌, ◌↔◌, ◌<◌, ◌≤◌, ◌-◌, ◌^◌, ℕ, List, length, map, Some, slice_get, slice_index, IsTrue, IfOk, OnErr, IfSome, MatchBool};
 ghost use Rattle.std.specs.Bool.{OnTrue};
-ghost use Rattle.std.specs.List.{AllZip};
 ghost use Rattle.dx_base.specs.Members.{Distinct, Each, ◌∈◌, ◌≈◌};
 ghost use Rattle.dx_model.specs.Values.{FactsAscend, RowsAscend};
 ghost use Rattle.dx_instance.specs.Stored.{AddsRow, IsSorting, facts, rows_of, table_at, without_rows};
-ghost use Rattle.dx_instance.specs.Cells.{IsPut};
 ghost use Rattle.dx_instance.specs.Images.{AreImages, IsImage, IsImageNumber};
-ghost use Rattle.dx_instance.specs.Numbers.{AreDistinctValues, Extends, ValuesAscend, value_of};
+ghost use Rattle.dx_instance.specs.Numbers.{AreDistinctValues, Extends, value_of};
 ghost use Rattle.dx_instance.specs.Shown.{AreBelow, NumbersFit, PartsFit, NumberRowsFit, Shows, renumbered, shown_row, shown_tables};
 ghost use Rattle.dx_instance.specs.Places.{AreFirsts, HasValues, IsFirstWith, row_at, rows_with, value_at};
 
@@ -17,7 +15,7 @@ use crate::firsts::first_places;
 use crate::gathered::Gathered;
 use crate::null_map::NullMap;
 use crate::numbers::Numbers;
-use crate::ordering::Ordered;
+use crate::sorted::Sorted;
 use crate::symbols::Symbols;
 use crate::table::Table;
 use dx_model::{Fact, Row, Value, copy_value};
@@ -131,58 +129,6 @@ fn images_among(
         images.push(image as u32)?;
     }
     Ok(Some(images))
-}
-
-// Tables of rows, which are put in order.
-fn put_all(alloc: Global, tables: Vec<Rows>) -> Result<Vec<Table>, AllocError>
-    ensures { IfOk result (λ all. AllZip IsPut tables.items all.items) }
-{
-    let mut all = Vec::with_capacity(alloc, tables.len())?;
-    for rows in tables {
-        all.push(Table::from_rows(alloc, rows)?)?;
-    }
-    Ok(all)
-}
-
-// An instance of rows whose symbols are in order.
-fn of_ordered(alloc: Global, symbols: Symbols, tables: Vec<Rows>) -> Result<Instance, AllocError>
-    requires ascend { ValuesAscend symbols }
-    requires fit { Each tables.items (NumberRowsFit (length symbols)) }
-    requires few { length tables.items < 2 ^ 32 - 1 }
-    ensures { IfOk result (IsSorting (shown_tables symbols tables.items)) }
-{
-    let _few = symbols.len();
-    let tables = put_all(alloc, tables)?;
-    Ok(Instance {
-        alloc,
-        symbols,
-        tables,
-    })
-}
-
-// The rows with other numbers.
-fn all_renumbered(alloc: Global, tables: Vec<Rows>, ranks: &[u32]) -> Result<Vec<Rows>, AllocError>
-    requires { Each tables.items (NumberRowsFit (length ranks.now)) }
-    ensures { IfOk result (λ all. all.items ≡ map (renumbered ranks.now) tables.items) }
-{
-    let mut all = Vec::with_capacity(alloc, tables.len())?;
-    for rows in tables {
-        all.push(rows.into_renumbered(ranks))?;
-    }
-    Ok(all)
-}
-
-// An instance of rows with ranks in place of their numbers.
-fn of_ranks(alloc: Global, ordered: Ordered, tables: Vec<Rows>) -> Result<Instance, AllocError>
-    requires ascend { ValuesAscend ordered.symbols }
-    requires within { (n : ℕ) → n < length ordered.ranks.items → slice_index ordered.ranks.items n < length ordered.symbols }
-    requires fit { Each tables.items (NumberRowsFit (length ordered.ranks.items)) }
-    requires few { length tables.items < 2 ^ 32 - 1 }
-    ensures { IfOk result (IsSorting (shown_tables ordered.symbols (map (renumbered ordered.ranks.items) tables.items))) }
-{
-    let Ordered { symbols, ranks } = ordered;
-    let ranked = all_renumbered(alloc, tables, &ranks)?;
-    of_ordered(alloc, symbols, ranked)
 }
 
 // The rows of tables with other numbers.
@@ -504,6 +450,18 @@ impl Instance {
         )
     }
 
+    // An instance whose symbols are in order, as any.
+    fn of_sorted(alloc: Global, sorted: Sorted) -> Instance
+        ensures { result ≡ shown_tables sorted.symbols sorted.tables }
+    {
+        let (symbols, tables) = sorted.into_parts();
+        Instance {
+            alloc,
+            symbols,
+            tables,
+        }
+    }
+
     /// An instance of these rows of numbers, which `symbols` give their values: the rows of each table ascend, each once.
     ///
     /// # Errors
@@ -518,10 +476,8 @@ impl Instance {
         requires few { length tables.items < 2 ^ 32 - 1 }
         ensures { IfOk result (IsSorting (shown_tables symbols tables.items)) }
     {
-        if symbols.is_ordered() {
-            return of_ordered(alloc, symbols, tables);
-        }
-        of_ranks(alloc, symbols.into_order(alloc)?, tables)
+        let sorted = Sorted::from_rows(alloc, symbols, tables)?;
+        Ok(Instance::of_sorted(alloc, sorted))
     }
 
     /// The same of values as they were read.
@@ -538,7 +494,8 @@ impl Instance {
         requires few { length tables.items < 2 ^ 32 - 1 }
         ensures { IfOk result (IsSorting (shown_tables values tables.items)) }
     {
-        of_ranks(alloc, values.into_order(alloc)?, tables)
+        let sorted = Sorted::from_gathered(alloc, values, tables)?;
+        Ok(Instance::of_sorted(alloc, sorted))
     }
 
     /// An instance with the same facts, the rows of each table ascending.
@@ -562,13 +519,25 @@ impl Instance {
     pub fn into_sorted(self) -> Result<Instance, AllocError>
         ensures { IfOk result (IsSorting self) }
     {
+        let alloc = self.alloc;
+        Ok(Instance::of_sorted(alloc, self.into_order()?))
+    }
+
+    /// The same with its symbols in order.
+    ///
+    /// # Errors
+    ///
+    /// `AllocError` if there is no memory.
+    pub fn into_order(self) -> Result<Sorted, AllocError>
+        ensures { IfOk result (λ s. IsSorting self (shown_tables s.symbols s.tables)) }
+    {
         let Instance {
             alloc,
             symbols,
             tables,
         } = self;
         let tables = rows_alone(alloc, tables)?;
-        Instance::from_rows(alloc, symbols, tables)
+        Sorted::from_rows(alloc, symbols, tables)
     }
 
     /// Whether the rows of the table are known to ascend. It takes no time.

@@ -53,10 +53,8 @@ impl Layer {
         requires { ValuesAscend values.items }
         ensures { IfOk result (λ l. l ≡ values.items) }
     {
-        match Rc::new(alloc, Block { values, hints }) {
-            Ok(block) => Ok(Layer { block: Some(block) }),
-            Err(_) => Err(AllocError),
-        }
+        let block = Rc::new(alloc, Block { values, hints })?;
+        Ok(Layer { block: Some(block) })
     }
 
     /// The values, lent.

@@ -8,7 +8,8 @@
 //!
 //! An instance grows row by row (`add`), or is made in bulk of `Rows` of numbers: of those of symbols (`from_rows`), or of
 //! values as they are read, where one value may have several numbers (`Gathered`, `from_gathered`). Then the rows of each
-//! table ascend. `sorted` gives the same rows ascending, `map_by` the image under a null map (specs/Images), `with_columns`,
+//! table ascend. `sorted` gives the same rows ascending, and `into_order` them as a `Sorted`, of which it is known that the
+//! symbols are in order; `map_by` gives the image under a null map (specs/Images), `with_columns`,
 //! `count_with` and `firsts` find rows by values (specs/Places). A `NullMap` is a finite map of nulls of which none is listed with itself
 //! (specs/NullMaps); a null that is not listed stays. `value_text` gives exactly the text of specs/ValueText, and
 //! `value_read` reads it back. specs/Laws has the laws: facts of sorted tables ascend and fit a schema with their widths, the
@@ -30,6 +31,7 @@ mod null_merge;
 mod numbers;
 mod ordering;
 mod packing;
+mod sorted;
 mod symbols;
 mod table;
 mod ties;
@@ -44,5 +46,6 @@ pub use laws::{facts_fit, no_value_texts, pairs_give, sorted_facts_ascend, value
 pub use null_map::NullMap;
 pub use numbers::Numbers;
 pub use ordering::Ordered;
+pub use sorted::Sorted;
 pub use symbols::Symbols;
 pub use value_texts::{value_read, value_text};

@@ -265,16 +265,14 @@ fn copies_in_order(
 
 // The bytes of texts as a buffer that its parts share.
 fn shared(alloc: Global, bytes: Vec<u8>) -> Result<Rc<String>, AllocError>
+    requires { IsUtf8 bytes.items }
     ensures { IfOk result (λ buffer. string_bytes buffer.value ≡ bytes.items) }
 {
     let Ok(texts) = String::from_utf8(bytes) else {
-        // The bytes are those of texts and so UTF-8: the branch spares a proof of it.
-        return Err(AllocError);
+        unreachable!();
     };
-    match Rc::new(alloc, texts) {
-        Ok(buffer) => Ok(buffer),
-        Err(_) => Err(AllocError),
-    }
+    let buffer = Rc::new(alloc, texts)?;
+    Ok(buffer)
 }
 
 // The values under these numbers. Their texts lie in one new buffer in this order, if they have fewer than 2^32 bytes

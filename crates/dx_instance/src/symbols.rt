@@ -10,6 +10,7 @@ use crate::hints::hint_of;
 use crate::layer::Layer;
 use crate::ordering::{Ordered, in_order, key_of};
 use crate::values::Values;
+use dx_base::no_number_left;
 use dx_model::{Value, copy_value};
 use indexmap::IndexSet;
 use std::alloc::{AllocError, Global};
@@ -218,8 +219,9 @@ impl Symbols {
             return Ok(number as u64);
         }
         let before = ordered.len() + self.greater.len();
-        if before + self.later.len() >= 4_294_967_295 {
-            return Err(AllocError);
+        let count = before + self.later.len();
+        if count >= 4_294_967_295 {
+            return Err(no_number_left(count as u64));
         }
         let (number, _) = self.later.insert_full(value)?;
         Ok((before + number) as u64)
@@ -240,7 +242,7 @@ impl Symbols {
     {
         let number = self.ordered.values().len() + self.greater.len() + self.later.len();
         if number >= 4_294_967_295 {
-            return Err(AllocError);
+            return Err(no_number_left(number as u64));
         }
         if self.later.is_empty() {
             self.greater.push(value)?;

@@ -2,7 +2,7 @@ use Rattle.std.proofs.Common.{◌≡◌, ◌++◌, List}
 use Rattle.std.specs.List.{AllZip}
 use Rattle.std.specs.Vec.Iter.{into_iter_items}
 use Rattle.dx_instance.specs.Cells.{IsPut, NumberTable}
-use Rattle.dx_instance.proofs.instance.put_all.Given as goal
+use Rattle.dx_instance.proofs.sorted.put_all.Given as goal
 
 -- the first rows were put in order
 abbrev pub invariant-loop-rows : goal.invariant-loop-rows

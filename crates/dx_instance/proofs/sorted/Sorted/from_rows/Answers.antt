@@ -1,8 +1,8 @@
 use Rattle.std.proofs.Common.{subst, sym, arith, ℕ}
 use Rattle.dx_base.specs.Members.{Each}
-use Rattle.dx_instance.specs.Shown.{NumberRowsFit}
+use Rattle.dx_instance.specs.Shown.{NumberRowsFit, shown_tables}
 use Rattle.dx_instance.proofs.SortFacts.{if_ok, ranks_show, same_sorting}
-use Rattle.dx_instance.proofs.instance.Instance.from_rows.Goals as goal
+use Rattle.dx_instance.proofs.sorted.Sorted.from_rows.Goals as goal
 
 pub of_ranks-requires-clause-ascend : goal.of_ranks-requires-clause-ascend
 of_ranks-requires-clause-ascend c = c.in_ok-into_order.ensures.ascend
@@ -17,4 +17,4 @@ pub returns : goal.returns
 returns c =
     let o = c.in_ok-into_order.ensures in
     let is = ranks_show c.args.symbols c.in_ok-into_order.field-0.symbols c.in_ok-into_order.field-0.ranks.items c.args.tables.items o c.requires.fit in
-    if_ok c.of_ranks.result (λ K s. same_sorting _ _ K is s) c.of_ranks.ensures
+    if_ok c.of_ranks.result (λ K s. same_sorting _ _ (shown_tables K.symbols K.tables) is s) c.of_ranks.ensures

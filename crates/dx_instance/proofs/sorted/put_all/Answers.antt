@@ -1,6 +1,6 @@
 use Rattle.std.proofs.Common.{◌≡◌, ◌∙◌, arith, length}
 use Rattle.dx_instance.proofs.SortFacts.{put_more, all_done}
-use Rattle.dx_instance.proofs.instance.put_all.Goals as goal
+use Rattle.dx_instance.proofs.sorted.put_all.Goals as goal
 
 pub loop-rows-preserved : goal.loop-rows-preserved
 loop-rows-preserved c =

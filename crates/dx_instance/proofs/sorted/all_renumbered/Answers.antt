@@ -4,7 +4,7 @@ use Rattle.dx_base.specs.Members.{◌∈◌, here, there}
 use Rattle.dx_instance.specs.Cells.{NumberTable}
 use Rattle.dx_instance.specs.Shown.{renumbered}
 use Rattle.dx_instance.proofs.SortFacts.{image_more}
-use Rattle.dx_instance.proofs.instance.all_renumbered.Goals as goal
+use Rattle.dx_instance.proofs.sorted.all_renumbered.Goals as goal
 
 pub into_renumbered-requires : goal.into_renumbered-requires
 into_renumbered-requires c = (c.loop-rows.invariant.fit _ (subst (λ (l : List NumberTable). c.in-Some.rows ∈ l) (sym c.in-Some.ensures.steps.0) (here refl))).within

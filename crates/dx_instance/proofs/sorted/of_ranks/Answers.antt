@@ -3,7 +3,7 @@ use Rattle.dx_base.specs.Members.{Each}
 use Rattle.dx_instance.specs.Cells.{NumberTable}
 use Rattle.dx_instance.specs.Shown.{NumberRowsFit, shown_tables}
 use Rattle.dx_instance.proofs.SortFacts.{if_ok, images_fit, same_sorting}
-use Rattle.dx_instance.proofs.instance.of_ranks.Goals as goal
+use Rattle.dx_instance.proofs.sorted.of_ranks.Goals as goal
 
 pub all_renumbered-requires : goal.all_renumbered-requires
 all_renumbered-requires c = rw c.deref.ensures.value c.requires.fit
@@ -18,4 +18,4 @@ of_ordered-requires-clause-fit c =
 pub returns : goal.returns
 returns c =
     let all = rw c.deref.ensures.value at c.in_ok-ranked.ensures in
-    if_ok c.of_ordered.result (λ K s. same_sorting _ _ K (ap (λ (l : List NumberTable). shown_tables c.args.ordered.symbols l) all) s) c.of_ordered.ensures
+    if_ok c.of_ordered.result (λ K s. same_sorting _ _ (shown_tables K.symbols K.tables) (ap (λ (l : List NumberTable). shown_tables c.args.ordered.symbols l) all) s) c.of_ordered.ensures

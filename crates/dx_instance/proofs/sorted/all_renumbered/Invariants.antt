@@ -2,7 +2,7 @@ use Rattle.std.proofs.Common.{◌≡◌, ◌++◌, map, length}
 use Rattle.std.specs.Vec.Iter.{into_iter_items}
 use Rattle.dx_base.specs.Members.{Each}
 use Rattle.dx_instance.specs.Shown.{NumberRowsFit, renumbered}
-use Rattle.dx_instance.proofs.instance.all_renumbered.Given as goal
+use Rattle.dx_instance.proofs.sorted.all_renumbered.Given as goal
 
 abbrev pub invariant-loop-rows : goal.invariant-loop-rows
 invariant-loop-rows l = record {
