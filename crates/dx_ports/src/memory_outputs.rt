@@ -2,7 +2,7 @@
 ghost use Rattle.std.specs.Prelude.{◌≡◌, [], ◌∷◌, Some, OnOk, OnErr, IsErrOf, IsTrue, Contains, min, take, ◌↔◌, ◌⊎◌, ◌+◌, ◌-◌, ◌^◌, ◌≤◌, ◌<◌};
 ghost use Rattle.std.specs.Bool.{OnTrue, MatchBool};
 ghost use Rattle.dx_base.specs.Entries.{entries_of};
-ghost use Rattle.dx_ports.specs.Told.{appended, GrewByPrefix};
+ghost use Rattle.dx_ports.specs.Told.{appended, GrewByPart, GrewByPrefix};
 ghost use Rattle.dx_ports.specs.Faults.{Rose};
 
 use crate::{Outputs, PutFault};
@@ -157,6 +157,8 @@ impl Outputs for MemOutputs {
             ≡ appended (⟦<MemOutputs as Outputs>⟧.state self.old).said (take (kept_front self.old) bytes.now) }
         ensures refused { OnErr result (GrewByPrefix (⟦<MemOutputs as Outputs>⟧.state self.old).said bytes.now
             (⟦<MemOutputs as Outputs>⟧.state self.new).said) }
+        ensures unsaid { IsErrOf result PutFault.Memory → GrewByPart (⟦<MemOutputs as Outputs>⟧.state self.old).said bytes.now
+            (⟦<MemOutputs as Outputs>⟧.state self.new).said }
         ensures files { (⟦<MemOutputs as Outputs>⟧.state self.new).files ≡ (⟦<MemOutputs as Outputs>⟧.state self.old).files }
         ensures counted { ⟦<MemOutputs as Outputs>⟧.faults self.old ≤ ⟦<MemOutputs as Outputs>⟧.faults self.new }
         ensures failed { IsErrOf result PutFault.Failed

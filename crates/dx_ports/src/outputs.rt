@@ -1,6 +1,6 @@
 // What is written to: files by name, and a text that is said.
 ghost use Rattle.std.specs.Prelude.{◌≡◌, ℕ, ◌≤◌, [], ◌∷◌, OnOk, OnErr, IsErrOf};
-ghost use Rattle.dx_ports.specs.Told.{appended, GrewByPrefix};
+ghost use Rattle.dx_ports.specs.Told.{appended, GrewByPart, GrewByPrefix};
 ghost use Rattle.dx_ports.specs.Faults.{Rose};
 ghost use Rattle.dx_ports.specs.States.{OutputState};
 ghost use Rattle.dx_ports.specs.declared.outputs.PutFault.TheVariants.{Memory};
@@ -61,10 +61,11 @@ pub trait Outputs {
     /// # Errors
     ///
     /// `Failed`: a write failed, and was counted. `Memory` if there is no memory. A front of the bytes was said
-    /// then, which may be empty.
+    /// then, which may be empty; after `Memory` not all of them.
     fn say(&mut self, bytes: &[u8]) -> Result<(), PutFault>
         ensures said { OnOk result ((state self.new).said ≡ appended (state self.old).said bytes.now) }
         ensures refused { OnErr result (GrewByPrefix (state self.old).said bytes.now (state self.new).said) }
+        ensures unsaid { IsErrOf result PutFault.Memory → GrewByPart (state self.old).said bytes.now (state self.new).said }
         ensures files { (state self.new).files ≡ (state self.old).files }
         ensures counted { faults self.old ≤ faults self.new }
         ensures failed { IsErrOf result PutFault.Failed → Rose (faults self.old) (faults self.new) }
