@@ -6,8 +6,9 @@ use Rattle.dx_ports.specs.declared.inputs.FetchFault.TheVariants as faults
 use Rattle.dx_ports.specs.States.{Found, InputState, OutputState, answered_then, nothing_read, nothing_written}
 
 -- want of memory answers nothing
-pub none_answered : (log : List Found) (name bytes : List ℕ) (e : FetchFault) → e ≡ faults.Memory → log ≡ answered_then log name (Err e) bytes
-none_answered log name bytes e is = subst (λ (f : FetchFault). log ≡ answered_then log name (Err f) bytes) (sym is) refl
+pub none_answered : (log : List Found) (name : List ℕ) (limit : ℕ) (into : List ℕ) (e : FetchFault) → e ≡ faults.Memory
+    → log ≡ answered_then log name limit (Err e) into
+none_answered log name limit into e is = subst (λ (f : FetchFault). log ≡ answered_then log name limit (Err f) into) (sym is) refl
 
 -- ---- at the start
 

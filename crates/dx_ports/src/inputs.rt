@@ -47,7 +47,7 @@ pub trait Inputs {
     fn fetch(&mut self, name: &Text, limit: u64, into: &mut Vec<u8>) -> Result<(), FetchFault>
         ensures kept { (state self.new).holds ≡ (state self.old).holds }
         ensures counted { (state self.old).faults ≤ (state self.new).faults }
-        ensures answered { (state self.new).answered ≡ answered_then (state self.old).answered name.now result into.new.items }
+        ensures answered { (state self.new).answered ≡ answered_then (state self.old).answered name.now limit result into.new.items }
 
         ensures bytes { IfSome (state self.old).holds (λ m. OnOk result (get m name.now ≡ Some into.new.items)) }
         ensures bound { OnOk result (length into.new.items ≤ limit) }

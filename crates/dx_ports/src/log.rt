@@ -1,7 +1,7 @@
 // What the calls of a port have answered. It exists only in proofs: it has no bytes, and its methods do nothing when they run.
-ghost use Rattle.std.specs.Prelude.{◌≡◌, List, [], ◌∷◌, ◌++◌, Some, None};
+ghost use Rattle.std.specs.Prelude.{◌≡◌, List, [], ◌∷◌, ◌++◌, get_or};
 ghost use Rattle.std.specs.Borrow.{ftrue};
-ghost use Rattle.dx_ports.specs.States.{Found, Written};
+ghost use Rattle.dx_ports.specs.States.{Found, Written, bytes, more_than, nothing};
 
 use std::marker::{Model, PhantomData};
 
@@ -28,12 +28,18 @@ impl ReadLog {
 
     /// The file of this name has these bytes.
     pub fn found(&mut self, _name: &[u8], _bytes: &[u8])
-        ensures { self.new.answers ≡ self.old.answers ++ (record { name = _name.now; bytes = Some _bytes.now }) ∷ [] }
+        ensures { self.new.answers ≡ self.old.answers ++ (record { name = _name.now; sight = bytes _bytes.now }) ∷ [] }
     {}
 
     /// There is no file of this name.
     pub fn missed(&mut self, _name: &[u8])
-        ensures { self.new.answers ≡ self.old.answers ++ (record { name = _name.now; bytes = None }) ∷ [] }
+        ensures { self.new.answers ≡ self.old.answers ++ (record { name = _name.now; sight = nothing }) ∷ [] }
+    {}
+
+    /// The file of this name has more bytes than the one number in `_limit`.
+    pub fn longer(&mut self, _name: &[u8], _limit: &[u64])
+        ensures { self.new.answers ≡ self.old.answers
+            ++ (record { name = _name.now; sight = more_than (get_or _limit.now 0 0) }) ∷ [] }
     {}
 }
 

@@ -71,7 +71,7 @@ impl Inputs for MemInputs {
         ensures kept { (⟦<MemInputs as Inputs>⟧.state self.new).holds ≡ (⟦<MemInputs as Inputs>⟧.state self.old).holds }
         ensures counted { (⟦<MemInputs as Inputs>⟧.state self.old).faults ≤ (⟦<MemInputs as Inputs>⟧.state self.new).faults }
         ensures answered { (⟦<MemInputs as Inputs>⟧.state self.new).answered
-            ≡ answered_then (⟦<MemInputs as Inputs>⟧.state self.old).answered name.now result into.new.items }
+            ≡ answered_then (⟦<MemInputs as Inputs>⟧.state self.old).answered name.now limit result into.new.items }
         ensures bytes { IfSome (⟦<MemInputs as Inputs>⟧.state self.old).holds
             (λ m. OnOk result (get m name.now ≡ Some into.new.items)) }
         ensures bound { OnOk result (length into.new.items ≤ limit) }
@@ -113,6 +113,7 @@ impl Inputs for MemInputs {
             return Err(FetchFault::Absent);
         };
         if bytes.len() as u64 > limit {
+            self.log.longer(name.bytes(), &[limit]);
             return Err(FetchFault::Long);
         }
         into.extend_from_slice(bytes)?;

@@ -1,5 +1,5 @@
 -- An empty body: the borrow is opened, and closed at another ghost value. Assumes `Logic`.
-use Rattle.std.proofs.Common.{ℕ, List, [], ◌∷◌, ◌++◌, None, refl, MutBor}
+use Rattle.std.proofs.Common.{ℕ, List, [], ◌∷◌, ◌++◌, refl, MutBor}
 use seplogic.Ra.Ura.{Ura}
 use mir.Syntax.{named}
 use mir.Val.{Val, vunit, vptr}
@@ -26,6 +26,7 @@ use denote.Triple.Spec.{Meets, triple_of}
 use denote.Triple.Table.{entered}
 use denote.Triple.Walked.{says, Stays, stay_ref, walk_of, AllGo, Goes-ref, Walks, ends_at, walked, walk_Meets}
 use Rattle.dx_ports.specs.declared.log.ReadLog.{ReadLog}
+use Rattle.dx_ports.specs.States.{nothing}
 use Rattle.dx_ports.specs.contracts.log.ReadLog as T
 use Rattle.dx_ports.specs.contracts.log.ReadLog.missed.Key.{name as #it}
 use Rattle.dx_ports.specs.contracts.log.ReadLog.missed as it
@@ -51,7 +52,7 @@ module _ {M : Type 1} {𝓤 : Ura M} (𝓛 : Logic 𝓤) (at_mem : Memory → SP
   x = (record { ref_ptr = (b, o); ghost_name = γ; now = h }, (k, tt))
 
   abbrev h' : ReadLog
-  h' = record { marker = h.marker; answers = h.answers ++ (record { name = k.now; bytes = None }) ∷ [] }
+  h' = record { marker = h.marker; answers = h.answers ++ (record { name = k.now; sight = nothing }) ∷ [] }
 
   abbrev at : List Val × (List Val × Unit {0})
   at = (vptr b o ∷ [], (slice_val k.ref_ptr (length k.now) ∷ [], tt))
