@@ -1,17 +1,18 @@
 -- The notions on small values: what the inputs hold, what stages in a row refuse, pass and ask for, and what a run leaves.
-use Rattle.std.proofs.Common.{◌≡◌, ℕ, ◌+◌, List, [], ◌∷◌, ◌++◌, length, refl, sym, ap, inl, inr, arith, Option, Some, None, Result, Ok, Err, Bool, true, false}
+use Rattle.std.proofs.Common.{◌≡◌, ℕ, zero, suc, ◌+◌, ◌<◌, take, List, [], ◌∷◌, ◌++◌, length, refl, sym, ap, inl, inr, arith, Option, Some, None, Result, Ok, Err, Bool, true, false}
 use Rattle.std.proofs.lemmas.Option.{none-some, same_Some}
 use Rattle.std.specs.FinMap.{get}
 use Rattle.dx_base.specs.Entries.{Entry, FileMap}
 use Rattle.dx_ports.specs.Faults.{Rose}
 use Rattle.dx_ports.specs.States.{Found, InputState, OutputState}
+use Rattle.dx_ports.specs.States as sights
 use Rattle.dx_stages.specs.declared.stop.Stop.TheVariants as stops
 use Rattle.dx_stages.specs.declared.plan.Ended.{Ended}
 use Rattle.dx_stages.specs.declared.plan.Ended.TheVariants as endeds
-use Rattle.dx_stages.specs.Worlds.{World, AnsweredIn, IsOf, HoldsFound, IsOnce}
+use Rattle.dx_stages.specs.Worlds.{World, Agrees, IsOf, IsSeen, HoldsFound, IsOnce}
 use Rattle.dx_stages.specs.Stages.{Stage, next, each, file, computing, saying_if}
 use Rattle.dx_stages.specs.Running.{Meets, FailedAt}
-use Rattle.dx_stages.specs.Ending.{PlanContent, WroteAll, WroteFirst, Ends, Counts, IsOutside, IsRefusedAs}
+use Rattle.dx_stages.specs.Ending.{PlanContent, WroteAll, WroteFirst, WroteLess, Ends, Counts, IsOutside, IsRefusedAs}
 
 -- ---- worlds
 
@@ -24,16 +25,16 @@ any_world : (c : World) → IsOf None c
 any_world c = tt
 
 -- what was found is what they told
-told_is_found : (m : FileMap) (f : Found) → HoldsFound (Some m) (f ∷ []) → get m f.name ≡ f.bytes
+told_is_found : (m : FileMap) (f : Found) → HoldsFound (Some m) (f ∷ []) → IsSeen (get m f.name) f.sight
 told_is_found m f told = told.0
 
-abbrev nothing : Found
-nothing = record { name = 1 ∷ []; bytes = None }
+abbrev none_there : Found
+none_there = record { name = 1 ∷ []; sight = sights.nothing }
 
-asked_once : IsOnce (nothing ∷ [])
+asked_once : IsOnce (none_there ∷ [])
 asked_once = ((λ h. h), tt)
 
-not_asked_twice : ¬ (IsOnce (nothing ∷ nothing ∷ []))
+not_asked_twice : ¬ (IsOnce (none_there ∷ none_there ∷ []))
 not_asked_twice h = h.0 (inl refl)
 
 -- ---- a file of at most one byte; 7 is said if it is absent, and 8 if it is too long
@@ -76,31 +77,38 @@ its_name_is_asked = refl
 no_fault_of_another : ¬ (Meets one_byte (all_are None) tt (Err (stops.Failed [])))
 no_fault_of_another h = let e : [] ≡ (1 ∷ []) = h in absurd (cc e)
 
--- ---- what was answered
+-- ---- what a read tells
 
 abbrev one_file : Found
-one_file = record { name = 1 ∷ []; bytes = Some (5 ∷ []) }
+one_file = record { name = 1 ∷ []; sight = sights.bytes (5 ∷ []) }
 
--- what a read answered is so in the world, also where the inputs tell nothing
-answer_is_so : AnsweredIn (all_are (Some (5 ∷ []))) [] (one_file ∷ [])
-answer_is_so = (one_file ∷ [], refl, (refl, tt))
+-- it is so in a world of these bytes alone, also where the inputs don't tell what they hold
+its_bytes : Agrees (all_are (Some (5 ∷ []))) (one_file ∷ [])
+its_bytes = (refl, tt)
 
 abbrev byte_of : Option (List ℕ) → ℕ
 byte_of None = 0
 byte_of (Some []) = 0
 byte_of (Some (b ∷ bs)) = b
 
-abbrev first_byte : List Found → ℕ
-first_byte [] = 0
-first_byte (f ∷ fs) = byte_of f.bytes
+no_other_bytes : ¬ (Agrees (all_are (Some (6 ∷ []))) (one_file ∷ []))
+no_other_bytes h = let e : 6 ≡ 5 = ap byte_of h.0 in omega (arith, e)
 
-no_other_bytes : ¬ (AnsweredIn (all_are (Some (6 ∷ []))) [] (one_file ∷ []))
-no_other_bytes ([], is, so) = let e : 5 ≡ 0 = ap first_byte is in omega (arith, e)
-no_other_bytes (f ∷ fs, is, so) = let e : 5 ≡ byte_of f.bytes = ap first_byte is in let k : 6 ≡ byte_of f.bytes = ap byte_of so.0 in omega (arith, e, k)
+no_file_there : ¬ (Agrees (all_are (Some [])) (none_there ∷ []))
+no_file_there h = let e : Some [] ≡ None = h.0 in absurd (cc e)
 
--- what was answered before says nothing of this world
-before_is_before : AnsweredIn (all_are (Some (6 ∷ []))) (one_file ∷ []) (one_file ∷ [])
-before_is_before = ([], refl, tt)
+-- of a file that is too long it is told how many bytes it exceeds, and not which they are
+abbrev long_file : Found
+long_file = record { name = 1 ∷ []; sight = sights.more_than 1 }
+
+two_are_more : Agrees (all_are (Some (5 ∷ 6 ∷ []))) (long_file ∷ [])
+two_are_more = (omega arith, tt)
+
+one_is_not_more : ¬ (Agrees (all_are (Some (5 ∷ []))) (long_file ∷ []))
+one_is_not_more h = let l = h.0 in omega (arith, l)
+
+none_is_not_more : ¬ (Agrees (all_are None) (long_file ∷ []))
+none_is_not_more h = h.0
 
 -- ---- stages in a row
 
@@ -254,6 +262,28 @@ after_what_was_there = record { put = refl; said = refl }
 -- a part of the text is its beginning
 a_part_was_said : WroteFirst [] (4 ∷ 5 ∷ []) 0 (written [] (3 ∷ [])) (written [] (3 ∷ 4 ∷ []))
 a_part_was_said = record { within = omega arith; put = refl; said = (1, refl); silent = λ h. absurd (omega (arith, h)) }
+
+-- memory may run out after it, or before the last file, and not after all
+after_a_part : WroteLess [] (4 ∷ 5 ∷ []) 0 (written [] (3 ∷ [])) (written [] (3 ∷ 4 ∷ []))
+after_a_part = (a_part_was_said, inr (1, omega arith, refl))
+
+before_the_last : WroteLess (first_file ∷ second_file ∷ []) (3 ∷ []) 1 (written [] []) (written (first_file ∷ []) [])
+before_the_last = (first_was_written, inl refl)
+
+abbrev length_said : Option (List ℕ) → ℕ
+length_said None = 0
+length_said (Some said) = length said
+
+abbrev four : List ℕ
+four = 4 ∷ []
+
+not_after_all : ¬ (WroteLess (first_file ∷ []) (4 ∷ []) 1 (written [] []) (written (first_file ∷ []) (4 ∷ [])))
+not_after_all (first, inl is) = let e : 1 ≡ 0 = ap length_said is in omega (arith, e)
+not_after_all (first, inr (k, less, is)) = let e : 1 ≡ length (take k four) = ap length_said is in none_of k less e
+  where
+    none_of : (k : ℕ) → k < 1 → 1 ≡ length (take k four) → ⊥
+    none_of zero less e = omega (arith, e)
+    none_of (suc k) less e = omega (arith, less)
 
 -- what is refused, or could not be read, has written nothing
 refused_wrote_nothing : (s : Stage ℕ ℕ (PlanContent ℕ)) (c : World) → ¬ (Ends s c 0 (written [] []) (written (first_file ∷ []) []) (endeds.Refused 7))

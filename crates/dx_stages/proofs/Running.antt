@@ -1,16 +1,17 @@
 -- What is computed of stages in a row, from what is computed of each.
-use Rattle.std.proofs.Common.{◌≡◌, ◌⊎◌, ℕ, List, [], ◌∷◌, ◌++◌, refl, sym, ◌∙◌, subst, inl, inr, arith, Option, Some, Result, Ok, Err}
+use Rattle.std.proofs.Common.{◌≡◌, ◌⊎◌, ℕ, List, [], ◌∷◌, ◌++◌, refl, sym, ap, ◌∙◌, subst, inl, inr, arith, Option, Some, Result, Ok, Err}
+use Rattle.std.proofs.lemmas.List.{append-nil, append_assoc}
 use Rattle.std.specs.Result.{IsErrAnd}
 use Rattle.dx_base.specs.Entries.{FileMap}
 use Rattle.dx_ports.specs.Faults.{Rose}
-use Rattle.dx_ports.specs.States.{InputState}
+use Rattle.dx_ports.specs.States.{Found, InputState}
 use Rattle.dx_stages.specs.declared.stop.Stop.{Stop}
 use Rattle.dx_stages.specs.declared.stop.Stop.TheVariants as stops
 use Rattle.dx_stages.specs.Worlds.{World, Agrees, HoldsFound, WasAsked}
 use Rattle.dx_stages.specs.Stages.{Stage, next, stay, each, by, over, into, file, saying, saying_if, become}
 use Rattle.dx_stages.specs.Laws.{AsksOtherFiles}
 use Rattle.dx_stages.specs.Running.{Answers, Meets, Gives, FailedAt, Ran, with_refusal}
-use Rattle.dx_stages.proofs.Worlds.{agrees_both, answered_both, answered_none, told_both, has_either, once_both, a_world}
+use Rattle.dx_stages.proofs.Worlds.{agrees_both, told_both, has_either, once_both, a_world}
 
 -- ---- what follows of one stage
 
@@ -60,7 +61,7 @@ ran_value s a r told g = record {
   counted = omega arith;
   failed = gives_no_fault s a r told g;
   finds = record { found = []; told = tt; once = tt; asked = λ c x n h. absurd h; meets = λ c x. gives_meets s a r g c };
-  answered = λ c x. answered_none c told.answered;
+  answered = sym (append-nil told.answered);
 }
 
 -- memory ran out
@@ -121,9 +122,7 @@ ran_next {E} {A} {B} {C} s t a b r old mid new apart x y = record {
     asked = asked;
     meets = λ c g. let h = agrees_both c x.finds.found y.finds.found g in meets_next s t c a b r (x.finds.meets c h.0) (y.finds.meets c h.1);
   };
-  answered = λ c g.
-      let h = agrees_both c x.finds.found y.finds.found g in
-      answered_both c old.answered mid.answered new.answered (x.answered c h.0) (y.answered c h.1);
+  answered = y.answered ∙ ap (λ (l : List Found). l ++ y.finds.found) x.answered ∙ append_assoc old.answered x.finds.found y.finds.found;
 }
   where
     later : HoldsFound old.holds y.finds.found

@@ -1,11 +1,11 @@
 -- What is computed of a stage, and what a run does with it.
-use Rattle.std.specs.Prelude.{◌≡◌, ◌⊎◌, ◌≤◌, ℕ, List, Option, IfSome, Result, Ok, Err}
+use Rattle.std.specs.Prelude.{◌≡◌, ◌⊎◌, ◌≤◌, ◌++◌, ℕ, List, Option, IfSome, Result, Ok, Err}
 use Rattle.dx_base.specs.Entries.{FileMap}
 use Rattle.dx_ports.specs.Faults.{Rose}
 use Rattle.dx_ports.specs.States.{Found, InputState}
 use Rattle.dx_stages.specs.declared.stop.Stop.{Stop}
 use Rattle.dx_stages.specs.declared.stop.Stop.TheVariants as stops
-use Rattle.dx_stages.specs.Worlds.{World, Agrees, AnsweredIn, HoldsFound, IsOnce, WasAsked}
+use Rattle.dx_stages.specs.Worlds.{World, Agrees, HoldsFound, IsOnce, WasAsked}
 use Rattle.dx_stages.specs.Stages.{Stage}
 
 -- the result is one that the stage gives in this world; for want of memory there is no reason
@@ -29,22 +29,24 @@ FailedAt old new (Err (stops.Refused e)) = new.faults ≡ old.faults
 FailedAt old new (Err (stops.Failed n)) = Rose old.faults new.faults × IfSome new.stopped (λ k. k ≡ n)
 FailedAt old new (Err stops.Memory) = new.faults ≡ old.faults
 
--- These files were found under names that the stage asks for, each once; in each world in which they are so the result is the stage's.
-pub record Finds {E A B : Type 0} (s : Stage E A B) (holds : Option FileMap) (a : A) (r : Result B (Stop E)) : Type 0 where
-  pub found : List Found
-  pub told : HoldsFound holds found
-  pub once : IsOnce found
-  pub asked : (c : World) → Agrees c found → (n : List ℕ) → WasAsked n found → s.asks c a n
-  pub meets : (c : World) → Agrees c found → Meets s c a r
+-- These files were found under names that the stage asks for, each once; in each world in which they are so the
+-- result is the stage's.
+pub record Finds {E A B : Type 0} (s : Stage E A B) (holds : Option FileMap) (a : A) (r : Result B (Stop E)) : Type 0
+  where
+    pub found : List Found
+    pub told : HoldsFound holds found
+    pub once : IsOnce found
+    pub asked : (c : World) → Agrees c found → (n : List ℕ) → WasAsked n found → s.asks c a n
+    pub meets : (c : World) → Agrees c found → Meets s c a r
 
--- The inputs hold what they held, and a fault is answered exactly if one was counted. What was answered meanwhile is so wherever what was
--- found is.
+-- The inputs hold what they held, and a fault is answered exactly if one was counted. What the reads answered is what
+-- was found.
 pub record Ran {E A B : Type 0} (s : Stage E A B) (a : A) (r : Result B (Stop E)) (old new : InputState) : Type 0 where
   pub kept : new.holds ≡ old.holds
   pub counted : old.faults ≤ new.faults
   pub failed : FailedAt old new r
   pub finds : Finds s old.holds a r
-  pub answered : (c : World) → Agrees c finds.found → AnsweredIn c old.answered new.answered
+  pub answered : new.answered ≡ old.answered ++ finds.found
 
 -- the result of a call that has a word of its own for want of memory is one that the stage gives in every world
 abbrev pub Answers : {E A B : Type 0} → E → Stage E A B → A → Result B E → Type 0

@@ -86,7 +86,8 @@ saying_if {E} {F} {A} {B} word s = record {
 -- a file of this name, which may have so many bytes; it says this if the file is absent, and that if it is too long
 abbrev pub file : {E A : Type 0} → List ℕ → ℕ → E → E → Stage E A (List ℕ)
 file {E} {A} name limit absent long = record {
-  refuses = λ c a e. ((c name ≡ None) × (e ≡ absent)) ⊎ ((bytes : List ℕ) × (c name ≡ Some bytes) × (limit < length bytes) × (e ≡ long));
+  refuses = λ c a e. ((c name ≡ None) × (e ≡ absent))
+      ⊎ ((bytes : List ℕ) × (c name ≡ Some bytes) × (limit < length bytes) × (e ≡ long));
   passes = λ c a bytes. (c name ≡ Some bytes) × (length bytes ≤ limit);
   asks = λ c a n. n ≡ name;
 }
