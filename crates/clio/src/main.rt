@@ -30,7 +30,7 @@ use dx_ports::{Inputs, Outputs};
 use std::alloc::{AllocError, Global};
 use std::process::ExitCode;
 use std::rt::Env;
-use std::{env, io};
+use std::{env, io, process};
 
 // So many bytes are taken at first, and given back. The C library maps a block afresh if it is greater than each that it
 // mapped before and got back; all others come from the memory that it has. So what is given back later is used again.
@@ -149,6 +149,6 @@ fn main(rt: HostRuntime) -> ExitCode {
         return no_memory();
     };
     let mut inputs = FolderInputs::new(&rt);
-    let mut outputs = FolderOutputs::new(&rt);
+    let mut outputs = FolderOutputs::new(&rt, process::id(rt.process()));
     run_shipped(&rt, &words, &mut inputs, &mut outputs)
 }

@@ -7,7 +7,9 @@
 #![tactic(auto)]
 
 mod inputs;
+mod logged;
 mod outputs;
+mod parts;
 
 pub use inputs::FolderInputs;
 pub use outputs::FolderOutputs;
