@@ -1,0 +1,320 @@
+"""clio-rules: what clio makes of the printed mapping is what SQL says, in plain and in core mode."""
+import json
+import os
+import pathlib
+import tempfile
+import unittest
+from collections import Counter
+
+from drawing_cases import cases
+from drawing_trial import differences, draw
+from random_drawings import tried
+from trial import TIMES, Trial
+
+from clio_tools.rules.lines_alone import bare_text, circular_refs
+from clio_tools.rules.whole import Faulty, read
+from clio_tools.mapping.tree import Argument, Line
+
+
+class Cases(Trial):
+    def test_cases_are_as_sql_says(self) -> None:
+        for case in cases():
+            with self.subTest(case.name):
+                self.put(case.files)
+                draw(self.folder)
+                for words in (), ("--core",):
+                    self.assertEqual(differences(self.folder, case.wanted, *words), [], words)
+
+    def test_lines_alone_are_otherwise(self) -> None:
+        """Where something else came out, the lines without their notes still give it, or are refused."""
+        for case in cases():
+            if not case.came_out:
+                continue
+            with self.subTest(case.name, came_out=case.came_out):
+                self.put(case.files)
+                drawing = read((self.folder / "drawing.clio").read_bytes())
+                lines = [Line(one.start, one.end, one.literal, one.conversion,
+                              tuple(Argument(of.start, of.end, of.set, of.column) for of in one.arguments),
+                              one.target) for one in drawing.tree.lines if all(of.column for of in one.arguments)]
+                text = bare_text(drawing, lines, list(drawing.tree.target.sets), circular_refs(drawing))
+                self.file("mapping.clio", text)
+                self.assertNotEqual(differences(self.folder, case.wanted), [])
+
+    def put(self, files: dict[str, str]) -> None:
+        """A folder with these files alone."""
+        for path in self.folder.glob("*.*"):
+            path.unlink()
+        for path in self.folder.glob("out/*"):
+            path.unlink()
+        for name, content in files.items():
+            self.file(name, content)
+
+
+
+HEAD = """mapping 2;
+source {
+  set ord { no, buyer, payer, note; ref (buyer) -> customer (id); ref (payer) -> customer (id) optional; }
+  set customer { id, cname, land; ref (land) -> country (code); }
+  set country { code, label; }
+  set shop { code; set till { no; } }
+  set stray { a; }
+}
+target {
+  set sale { no, who, land, kind, client; key (no); ref (client) -> client (cid) optional; }
+  set bare { no, who; }
+  set client { cid, cname, land; key (cname); }
+  set unit { uname; key (uname); set staff { sid, sname; key (sid); } }
+}
+"""
+ROWS = "rows sale from ord;\nline ord.no -> sale.no;\n"
+REFUSED = [  # the end of the drawing, what is said, and the word that is shown
+    ("line customer.cname -> sale.who by buyer;", "say from which set the rows of sale come: rows sale from customer;",
+     "sale"),
+    (ROWS + "line customer.cname -> sale.who;", "several ways lead from ord to customer for sale.who: say which, by "
+     "buyer, by payer", "customer"),
+    (ROWS + "line customer.cname -> sale.who by land;", "no ref of ord goes by land: buyer leads to customer, payer "
+     "leads to customer", "land"),
+    (ROWS + "line customer.cname -> sale.who by buyer.note;", "no ref of customer goes by note: land leads to country",
+     "note"),
+    (ROWS + "line stray.a -> sale.who;", "no ref leads from ord to stray", "stray"),
+    (ROWS + "line customer.cname -> sale.who by buyer.land;", "by buyer.land leads from ord to country, and from there "
+     "no ref leads to customer", "buyer"),
+    (ROWS + 'line customer.cname -> sale.who by buyer else "none";', "no default for a missing link can be said",
+     "else"),
+    (ROWS + "line customer.cname -> sale.who by buyer via payer;", "unexpected `via`; here can be `;` or `.` or `from` "
+     "or `where`", "via"),
+    (ROWS + "line ord.note -> sale.who; line customer.cname -> sale.who by buyer;", "two lines give sale.who a value",
+     "who"),
+    (ROWS + 'line "x" -> sale.kind from stray;', "the rows of sale come from ord, not from stray", "stray"),
+    (ROWS + 'line "x" -> sale.kind from strai;', "the source has no set strai; did you mean stray?", "strai"),
+    (ROWS + "line ord.nix -> sale.who;", "ord has no column nix", "nix"),
+    (ROWS + "line ord.note -> sale.nix;", "sale has no column nix", "nix"),
+    ("rows bare from ord;\nline ord.no -> bare.no;\nline customer.cname -> bare.who by buyer;",
+     "bare has no key that lines give", "who"),
+    ("rows bare from ord with buyer;\nline ord.no -> bare.no;\nline customer.cname -> bare.who by payer;",
+     "write `with payer`", "who"),
+    ("rows sale from nix;", "the source has no set nix", "nix"),
+    ("rows nix from ord;", "the target has no set nix", "nix"),
+    ("rows sale from ord;", "no line gives sale a value from ord", "sale"),
+    ("rows sale from ord by buyer;\nline ord.no -> sale.no;", "sale is no inner set", "buyer"),
+    ("rows sale from ord with note;\nline ord.no -> sale.no;", "no ref of ord goes by note", "note"),
+    ("rows staff from ord;\nline ord.no -> staff.sid;", "staff is in unit: say from which set the rows of unit come",
+     "staff"),
+    ("rows unit from customer;\nline customer.cname -> unit.uname;\nrows staff from ord;\nline ord.no -> staff.sid;",
+     "could be in unit in several ways: say which, by buyer, by payer", "ord"),
+    ("rows unit from stray;\nline stray.a -> unit.uname;\nrows staff from ord;\nline ord.no -> staff.sid;",
+     "no way leads from ord to stray", "ord"),
+    (ROWS + "line customer -> sale.client by buyer;", "no row of client comes from customer", "customer"),
+    (ROWS + "line customer -> sale.who by buyer;", "sale.who has no ref", "who"),
+    (ROWS + "rows client from customer;\nline customer.cname -> client.cname;",
+     "sale.client could lead to client in several ways: say which, "
+     "line customer -> sale.client by buyer; line customer -> sale.client by payer;", "ord"),
+    (ROWS + "rows client from customer;\nline customer.land -> client.land;\nline customer -> sale.client by buyer;",
+     "have no key that lines give", "client"),
+    (ROWS + 'line "x" -> sale.kind where note ~ "x";', "there are no comparisons but `=`", "~"),
+    (ROWS + 'line "x" -> sale.kind where note = "x" or note = "y";', "there is no `or`", "or"),
+    (ROWS + 'line "x" -> sale.kind where nota = "x";', "ord has no column nota", "nota"),
+    (ROWS + 'line "x" -> sale.kind where note = "x";\nline "y" -> sale.kind where note = "x";', "under the same tests",
+     "kind"),
+    ("rows unit from shop where code filled;\nline shop.code -> unit.uname;",
+     "`where .. filled` takes a copy of the set, and shop is in a document", "filled"),
+    (ROWS + "line rot13(ord.note) -> sale.who;", "there is no conversion rot13", "rot13"),
+    (ROWS + "line pair(ord.note) -> sale.who;", "pair takes 2, and here are 1", "pair"),
+    (ROWS + "lookup nix;", "the source has no set nix", "nix"),
+    (ROWS + "rule ord(a, b) -> sale(a, b, c, d, e);", "ord has 4 columns (no, buyer, payer, note), and here are 2 "
+     "cells", "ord"),
+    (ROWS + "rule ord(nix = a) -> sale(no = a);", "ord has no column nix", "nix"),
+    (ROWS + "rule ord(no = a, no = b) -> sale(no = a);", "no is here twice", "no"),
+    (ROWS + "rule ord(no = a, b) -> sale(no = a);", "unexpected `)`; here can be `=`", ")"),
+    (ROWS + "line ord.note -> sale.kind", "the text ends here; here can be `;`", ""),
+]
+
+
+class Refusals(Trial):
+    def test_each_shows_its_word(self) -> None:
+        for tail, why, word in REFUSED:
+            with self.subTest(tail):
+                self.file("drawing.clio", HEAD + tail + "\n")
+                with self.assertRaises(Faulty) as caught:
+                    draw(self.folder)
+                fault = next((one for one in caught.exception.faults if why in one.said), None)
+                self.assertIsNotNone(fault, [one.said for one in caught.exception.faults])
+                if fault:
+                    self.assertTrue((HEAD + tail)[fault.start:].startswith(word), fault)
+
+    def test_all_come_at_once_with_line_column_and_caret(self) -> None:
+        self.file("drawing.clio", HEAD + ROWS + "line ord.nix -> sale.who;\nline customer.cname -> sale.nox;\n")
+        self.refused("clio-rules", why="clio-rules: drawing.clio:17:10: ord has no column nix; it has no, buyer, "
+                     "payer, note\n"
+                     "  line ord.nix -> sale.who;\n           ^^^\n"
+                     "drawing.clio:18:29: sale has no column nox; did you mean no?; it has no, who, land, kind, "
+                     "client\n"
+                     "  line customer.cname -> sale.nox;\n                              ^^^\n")
+        self.file("drawing.clio", HEAD + ROWS + "line customer.cname -> sale.who;\nline stray.a -> sale.kind;\n")
+        status, _, said = self.tool("clio-rules")
+        self.assertEqual((status, said.count("^")), (2, len("customer" + "stray")))
+
+    def test_a_set_without_rows_that_lines_refuse(self) -> None:
+        refs = "".join(f" ref (r{n}) -> a (x) optional;" for n in range(8))
+        columns = ", ".join(f"r{n}" for n in range(8))
+        self.file("drawing.clio", f"mapping 2;\nsource {{ set a {{ x; }} set b {{ y, {columns};{refs} }} }}\ntarget "
+                  f"{{ set t {{ u; }} set v {{ w; }} }}\n"
+                  "rows t from a;\nline a.x -> t.u;\nline b.y -> v.w;\n")
+        self.refused("clio-rules", why="the lines to v, which has no `rows`, are refused (limit: variants 256): say "
+                     "from which set its rows come")
+
+
+class Writing(Trial):
+    DRAWING = HEAD + ROWS + 'line "x" -> sale.kind where note = "x";\nline ord.note -> sale.who where note filled;\n'
+
+    def files(self) -> list[str]:
+        return sorted(path.name for path in self.folder.iterdir())
+
+    def test_what_is_written_is_what_is_printed_and_stays(self) -> None:
+        self.file("drawing.clio", self.DRAWING)
+        printed = self.printed("clio-rules")
+        self.assertEqual(self.files(), ["drawing.clio"])
+        self.printed("clio-rules", "--write")
+        self.assertEqual(self.files(), ["drawing.clio", "is_x.csv", "mapping.clio", "ord_note_filled.csv"])
+        self.assertEqual((self.folder / "mapping.clio").read_text(), printed)
+        self.assertEqual((self.folder / "is_x.csv").read_text(), 'text\n"x"\n')
+        self.assertEqual(os.readlink(self.folder / "ord_note_filled.csv"), "ord.csv")
+        before = [os.lstat(self.folder / name).st_mtime_ns for name in self.files()]
+        self.printed("clio-rules", "--write")
+        self.assertEqual([os.lstat(self.folder / name).st_mtime_ns for name in self.files()], before)
+        os.rename(self.folder / "mapping.clio",
+                  self.folder / "drawing.clio")  # a printed mapping is a drawing without notes
+        self.assertEqual(self.printed("clio-rules").split("\n", 1)[1], printed)
+
+    def test_nothing_of_others_is_overwritten(self) -> None:
+        self.file("drawing.clio", self.DRAWING)
+        self.file("mapping.clio", "mapping 1; source { } target { }")
+        self.refused("clio-rules", "--write", why="mapping.clio wasn't printed by clio-rules: move it away first")
+        (self.folder / "mapping.clio").unlink()
+        self.printed("clio-rules", "--write")
+        written = (self.folder / "mapping.clio").read_text()
+        self.file("mapping.clio", written + "// mine\n")
+        self.refused("clio-rules", "--write", why="was edited by hand since clio-rules printed it")
+        self.file("mapping.clio", written)
+        for name, why in ("is_x.csv", "is there, with another content"), ("ord_note_filled.csv",
+                                                                          "takes it as a second name of ord.csv"):
+            (self.folder / name).unlink()
+            self.file(name, "mine")
+            self.refused("clio-rules", "--write", why=why)
+            self.assertEqual((self.folder / name).read_text(), "mine")
+            (self.folder / name).unlink()
+            self.printed("clio-rules", "--write")
+        (self.folder / "far").mkdir()
+        (self.folder / "mapping.clio").rename(self.folder / "far" / "mapping.clio")
+        os.symlink("far/mapping.clio", self.folder / "mapping.clio")
+        self.refused("clio-rules", "--write", why="is a link, and clio-rules writes through none")
+
+    def test_comments_go_to_their_rules(self) -> None:
+        self.file("drawing.clio", HEAD + "// of sales\nrows sale from ord; // all of them\nline ord.no -> "
+                  "sale.no;\n\n// who pays\n"
+                  "line customer.cname -> sale.who by payer;\n// by hand\nrule stray(a) -> bare(a, b); // still\n// "
+                  "the end\n")
+        lines = self.printed("clio-rules").split("\n")[lines_of(HEAD) + 1:]
+        self.assertEqual(lines, ["", "// of sales", "// all of them", "// sale: a row for each ord",
+                                 "rule ord(no, buyer, payer, note) -> sale(no, open_who, "
+                                 "open_land, open_kind, open_client);", "// who pays",
+                                 "// sale: who of each ord with the customer by payer",
+                                 "rule ord(no, buyer, payer, note), customer(payer, cname, land) -> sale(no, cname, "
+                                 "open_land, open_kind, open_client);",
+                                 "", "// by hand", "// still", "rule stray(a) -> bare(a, b);", "", "// the end", ""])
+
+    def test_a_drawing_without_notes_is_printed_as_it_is(self) -> None:
+        text = HEAD + "line ord.no -> sale.no;  // a line\nrule stray(a) -> bare(a, b);\n"
+        self.file("drawing.clio", text)
+        self.assertEqual(self.printed("clio-rules").split("\n", 1)[1], text)
+
+
+def lines_of(text: str) -> int:
+    return text.count("\n")
+
+
+class Saying(Trial):
+    def test_what_lines_say(self) -> None:
+        self.put_case("flights: two airports")
+        said = self.printed("clio-rules", "--what-lines-say")
+        self.assertIn("leave it out:\n  each flight with the port by dep and the port by arr: leg(no = flight.no, a = "
+                      "port.city by dep, "
+                      "b = port.city by dep)\n", said)
+        self.assertIn("  each port: leg(a = port.city, b = port.city)  [the rows of leg come from flight]\n", said)
+        self.assertIn("stays (under the keys of the target):\n  each flight with the port by dep and the port by arr: "
+                      "leg(no = flight.no, "
+                      "a = port.city by dep, b = port.city by arr)\n", said)
+        self.assertIn("The notes add this, which the lines alone don't say:\n  leg: a row for each flight.\n", said)
+
+    def test_proposals_and_choices(self) -> None:
+        self.put_case("flights: two airports")
+        text = (self.folder / "drawing.clio").read_text()
+        (self.folder / "drawing.clio").unlink()
+        for note in "rows leg from flight;\n", " by dep", " by arr":
+            text = text.replace(note, "")
+        self.file("mapping.clio", text)
+        choice = "// choose for port.city of each flight: by dep or by arr\n"
+        proposed = self.printed("clio-rules", "--propose")
+        self.assertEqual(proposed.split("}\n")[-1], "rows leg from flight;\nline flight.no -> leg.no;\n" + choice +
+                         "line port.city -> leg.a;\n" + choice + "line port.city -> leg.b;\n")
+
+    def test_data_has_places_ways_rules_and_faults(self) -> None:
+        self.put_case("flights: two airports")
+        text = (self.folder / "drawing.clio").read_text()
+        data = json.loads(self.printed("clio-rules", "--json"))
+        self.assertEqual(data["sets"]["leg"]["rows"][0]["key"], ["no"])
+        line = data["lines"][1]
+        self.assertEqual(text[line["start"]:line["end"]], "line port.city -> leg.a by dep;")
+        self.assertEqual(line["arguments"][0]["ways"], {"flight": ["dep", "arr"]})
+        self.assertEqual([rule["says"] for rule in data["rules"]][1], "leg: a of each flight with the port by dep")
+        self.file("drawing.clio", text.replace("by dep", "by dip"))
+        data = json.loads(self.printed("clio-rules", "--json"))
+        self.assertEqual([(fault["line"], fault["column"]) for fault in data["faults"]], [(6, 28)])
+
+    def put_case(self, name: str) -> None:
+        case = next(one for one in cases() if one.name == name)
+        for file, content in case.files.items():
+            self.file(file, content)
+
+
+class Sizes(Trial):
+    def test_too_many_cells_are_refused_before_the_run(self) -> None:
+        """12 optional links and 30,000 rows: 13 rules of 13 cells are past the limit; with `lookup` clio runs it."""
+        links = range(12)
+        keys, values = (", ".join(f"{letter}{n}" for n in links) for letter in "kv")
+        refs = "".join(f" ref (k{n}) -> d{n} (id) optional;" for n in links)
+        source = f"set f {{ no, {keys};{refs} }}\n" + "".join(f"set d{n} {{ id, v; }}\n" for n in links)
+        lines = "".join(f"line d{n}.v -> t.v{n};\n" for n in links)
+        text = (f"mapping 2;\nsource {{\n{source}}}\ntarget {{ set t {{ no, {values}; key (no); }} }}\nrows t from f;\n"
+                f"line f.no -> t.no;\n{lines}")
+        self.file("drawing.clio", text)
+        rows = [[str(row), *[str((row + n) % 12) for n in links]] for row in range(30000)]
+        self.file("f.csv", f"no,{keys}\n".replace(" ", "") + "".join(",".join(row) + "\n" for row in rows))
+        for n in links:
+            self.file(f"d{n}.csv", "id,v\n" + "".join(f"{row},{n}-{row}\n" for row in range(10)))
+        count = sum(13 * (30000 if not way else 25000) for way in range(13))
+        self.refused("clio-rules", "--write", why=f"the rules make {count:,} cells of the files here, and clio takes "
+                     f"4,000,000 (target cells): write "
+                     "`lookup d0, d1, d2, d3,")
+        self.printed("clio-rules", "--write", "--large")
+        self.file("drawing.clio", text + "lookup " + ", ".join(f"d{n}" for n in links) + ";\n")
+        self.printed("clio-rules", "--write")
+        self.assertEqual(self.clio("exchange")[0], 0)
+        written = (self.folder / "out/t.csv").read_text().split("\n")[1:-1]
+        value = {line.split(",")[0]: line.split(",")[1:] for line in written}
+        self.assertEqual(len(value), 30000)
+        self.assertEqual(value["3"][:7], [f"{n}-{3 + n}" for n in range(7)])
+        self.assertTrue(all(cell.startswith("?") for cell in value["3"][7:9]))
+
+
+class Random(Trial):
+    def test_random_drawings_are_as_sql_says(self) -> None:
+        tally: Counter[str] = Counter()
+        for number in range(25 * TIMES):
+            with tempfile.TemporaryDirectory() as name:
+                self.assertIsNone(tried(f"gate.{number}", pathlib.Path(name), tally), number)
+        self.assertGreater(tally["as SQL says"], 20 * TIMES)
+
+
+if __name__ == "__main__":
+    unittest.main()
