@@ -9,7 +9,7 @@ import traceback
 
 from clio_tools.draft import postgres, sqlite  # noqa: F401  pylint: disable=unused-import
 from clio_tools.tables import bases  # noqa: F401  pylint: disable=unused-import
-from clio_tools.sql import chase, engines, filling, folding, rigid, servers, whole, writing  # noqa: F401  pylint: disable=unused-import
+from clio_tools.sql import command as sql  # noqa: F401  pylint: disable=unused-import
 
 TOOLS = pathlib.Path(__file__).resolve().parent.parent.parent / "tools"
 

@@ -11,17 +11,19 @@ from trial import PROGRAM, Trial
 
 from chase import Chase
 from clio_tools.csv import read_table, write_table
-from clio_tools.sql.engines import EngineError
-from clio_tools.sql.servers import Place
+from clio_tools.program import Refused
+from clio_tools.sql.script import Script
+from clio_tools.sql.servers import reached, sign
+from clio_tools.sql.words import POSTGRES, SQLITE
 from covers import Covers, CoveredPlaces
 from files import moved, nulls_text, rows_of
-from homomorphisms import is_core
+from homomorphisms import core_of, homomorphism, is_core
 from matches import canonical, facts_of, places_of
 from random_cases import random_case
 from refusals import Limit, TooLong
 from schema import preorder
 from spelling import mapping_tokens
-from values import nulls_of, value_text
+from values import Fact, ascending, image, nulls_of, read_value
 
 RANDOM = {"rules": 2, "lines": 2, "mixed": 2, "keyed": 4, "dependent": 6}
 STAND_IN = """#!/bin/sh
@@ -93,16 +95,30 @@ class Random(Trial):
             return
         self.assertEqual(status, 0, said)
         target = chase.instance()
-        base = sqlite3.connect(self.folder / "target.db")
-        for number, table in enumerate(case.mapping.target):
-            wanted = [tuple(map(value_text, row)) for row in rows_of(target, number)]
-            self.assertEqual(sorted(base.execute(f'SELECT * FROM "{table.name}"')), sorted(wanted))
         fold = moved((null, chase.value(value)) for null, value in covered.items())
-        self.assertEqual(sorted(base.execute("SELECT * FROM fold")), sorted((value_text(null), value_text(value)) for null, value in fold.items()))
-        self.assertEqual(base.execute("SELECT count(*) FROM nulls").fetchone()[0], nulls_text(target, *made)[1])
-        base.close()
-        if words and "a core" in said:
-            self.assertTrue(is_core(target))
+        with contextlib.closing(sqlite3.connect(self.folder / "target.db")) as base:
+            found = {Fact(number, tuple(map(read_value, row))) for number, table in enumerate(case.mapping.target)
+                     for row in base.execute(f'SELECT * FROM "{table.name}"')}
+            folded = {read_value(null): read_value(value) for null, value in base.execute("SELECT * FROM fold")}
+            counted = base.execute("SELECT count(*) FROM nulls").fetchone()[0]
+            rows = sum(base.execute(f'SELECT count(*) FROM "{table.name}"').fetchone()[0] for table in case.mapping.target)
+        self.assertEqual((rows, counted), (len(found), nulls_text(found, *made)[1]))
+        if "reduced by clio" in said:
+            self.compare_core(target, found, fold, folded)
+        else:
+            self.assertEqual((found, folded), (target, fold))
+        if words:
+            self.assertIn("a core", said)
+            self.assertTrue(is_core(found))
+
+    def compare_core(self, target, found, fold, folded):
+        """What was reduced is a core of the target, and the fold sends what the rules make onto it."""
+        self.assertEqual(len(found), len(core_of(target)))
+        self.assertLessEqual(found, target)
+        self.assertIsNotNone(homomorphism(ascending(target), found))
+        onto = lambda value: folded.get(fold.get(value, value), fold.get(value, value))  # noqa: E731
+        self.assertEqual(image(target, onto), found)
+        self.assertEqual({null: onto(null) for null in fold} | {null: value for null, value in folded.items() if null not in fold}, folded)
 
 
 class Wide(Trial):
@@ -131,7 +147,7 @@ class Wide(Trial):
 
     def test_two_rules(self):
         self.wide("p", "q")
-        self.refused("clio-sql", "sqlite", "--core", "source.db", "target.db", why="takes too many steps to find out for these rules")
+        self.assertEqual(self.printed("clio-sql", "sqlite", "--core", "source.db", "target.db"), "phone 7\ncard 1\nnulls 8\nfold 1\n")
 
 
 MARKED = ["", "?", "??", "?0.0.0", "c", "cx", "n", "n00000.00000.0000000000", "'", '"', "a,b", "\n", "é"]
@@ -189,15 +205,96 @@ class Words(Trial):
         self.refused("clio-sql", "postgres", "--source", why="--source asks for --servers")
         self.refused("clio-sql", "postgres", "--servers", "servers.txt", why="servers.txt")
 
+    def test_no_server_is_told_by_a_password(self):
+        for line in "host", "host='a", "host=a b", "HOST=a", "host=a passwd=TOPSECRET", "postgresql://clio:TOPSECRET@a/b?passwd=x", "password=TOP SECRET host=a":
+            self.file("servers.txt", f"host=a\n\n{line}\n")
+            self.file("mapping.clio", TWO)
+            status, out, said = self.tool("clio-sql", "postgres", "--servers", "servers.txt")
+            self.assertEqual((status, out), (2, ""))
+            if "missing" not in said:  # psycopg
+                self.assertIn("line 3 of the servers", said)
+            self.assertNotIn("SECRET", said)
+
     def test_a_server_is_told_by_how_it_is_reached(self):
-        one, other = Place("host=a dbname=x user=u"), Place("host=b dbname=x user=u")
-        again = Place(" dbname = x  host='a' user=v password='it\\'s \\\\ old' ")
-        self.assertEqual((one.sign == again.sign, one.sign == other.sign), (True, False))
-        self.assertEqual(again.user, {"user": "v", "password": "it's \\ old"})
-        self.assertEqual(again.connection(), "dbname='x' host='a' user='v'")
-        self.assertIn("OPTIONS (user 'v', password 'it''s \\ old')", [*again.made_known()][-1])
-        for line in "host", "host='a", "host=a b", "HOST=a":
-            self.assertRaises(EngineError, Place, line)
+        try:
+            one, other, again = reached(["host=a dbname=x user=u", "host=b dbname=x user=u", " dbname = y  host='a' user=v password='it\\'s \\\\ old' "])
+            same, = reached(["postgresql://w@a/x"])
+        except Refused as why:
+            self.assertIn("psycopg", str(why))
+            return
+        self.assertEqual((sign(one) == sign(same), sign(one) == sign(other)), (True, False))
+        self.assertEqual((again.secrets, "old" in again.shown()), ({"password": "it's \\ old"}, False))
+        self.assertRaises(Refused, reached, ["host=a", "host=a user=b"])
+        self.assertRaises(Refused, reached, [" "])
+
+    def test_an_unknown_conversion_or_test_is_an_error(self):
+        for words in POSTGRES, SQLITE:
+            self.assertEqual(words.exported('"digits"(a0."x")'), words.conversions["digits"].format('a0."x"'))
+            self.assertRaises(Refused, words.exported, '"upper"(a0."x")')
+            self.assertRaises(Refused, words.passes, '"x"', "even")
+
+    def test_no_step_is_skipped(self):
+        self.assertRaises(ValueError, Script().add, "DROP TABLE m0;")
+
+
+class SameFile(Trial):
+    """The source is never written to."""
+
+    def setUp(self):
+        super().setUp()
+        os.symlink(PROGRAM, self.folder / "clio")
+        path = os.environ["PATH"]
+        self.addCleanup(os.environ.__setitem__, "PATH", path)
+        os.environ["PATH"] = f"{self.folder}:{path}"
+        self.file("mapping.clio", "mapping 1; source { set t { x, y; } } target { set t { p, n; } } line t.x -> t.p;")
+        self.base("s.db", "CREATE TABLE t (x TEXT, y TEXT)", "INSERT INTO t VALUES ('1', 'kept')")
+
+    def base(self, name, *statements):
+        """Runs statements on a file; answers the rows of the last."""
+        with contextlib.closing(sqlite3.connect(self.folder / name)) as base, base:
+            return [base.execute(statement).fetchall() for statement in statements][-1]
+
+    def test_source_and_target_are_two_files(self):
+        os.link(self.folder / "s.db", self.folder / "hard.db")
+        os.symlink("s.db", self.folder / "soft.db")
+        for target in "s.db", "./s.db", "hard.db", "soft.db":
+            self.refused("clio-sql", "sqlite", "s.db", target, why="are one file")
+        self.assertEqual(self.base("s.db", "SELECT * FROM t"), [("1", "kept")])
+
+    def test_a_table_of_others_is_refused(self):
+        self.base("t.db", "CREATE TABLE t (mine TEXT)", "INSERT INTO t VALUES ('kept')")
+        self.refused("clio-sql", "sqlite", "s.db", "t.db", why="has a table t with other columns, which clio-sql didn't make")
+        self.assertEqual(self.base("t.db", "SELECT * FROM t"), [("kept",)])
+
+    def test_a_view_goes_on(self):
+        self.printed("clio-sql", "sqlite", "s.db", "t.db")
+        self.base("t.db", "CREATE VIEW v AS SELECT p FROM t", "CREATE INDEX i ON t (p)")
+        self.base("s.db", "UPDATE t SET x = 'new'")
+        self.printed("clio-sql", "sqlite", "s.db", "t.db")
+        self.assertEqual(self.base("t.db", "SELECT * FROM v"), [("new",)])
+        self.assertEqual(self.base("t.db", "SELECT name FROM sqlite_schema WHERE type = 'index'"), [("i",)])
+
+    def test_a_clash_leaves_the_target(self):
+        self.printed("clio-sql", "sqlite", "s.db", "t.db")
+        self.file("mapping.clio", "mapping 1; source { set t { x, y; } } target { set t { p, q; key (p); } } line t.x -> t.p; line t.y -> t.q;")
+        self.base("s.db", "INSERT INTO t VALUES ('1', 'other')")
+        self.assertEqual(self.tool("clio-sql", "sqlite", "s.db", "t.db")[0], 3)
+        self.assertEqual(self.base("t.db", "SELECT * FROM t"), [("1", "?0.0.0")])
+        self.assertEqual(self.tool("clio-sql", "sqlite", "s.db", "none.db")[0], 3)
+        self.assertFalse((self.folder / "none.db").exists())
+
+    def test_a_target_in_use_is_left(self):
+        self.printed("clio-sql", "sqlite", "s.db", "t.db")
+        with contextlib.closing(sqlite3.connect(self.folder / "t.db")) as base:
+            base.execute("BEGIN IMMEDIATE")
+            self.refused("clio-sql", "sqlite", "s.db", "t.db", why="database is locked")
+
+    def test_sql_is_printed_and_not_run(self):
+        for core in [], ["--core"]:
+            printed = self.printed("clio-sql", "sqlite", *core, "--explain", "s.db", "none.db")
+            self.assertIn('CREATE TABLE target."t" AS SELECT', printed)
+        self.assertFalse((self.folder / "none.db").exists())
+        self.assertIn("CREATE UNLOGGED TABLE", self.printed("clio-sql", "postgres", "--explain", "--core", "host=nowhere.invalid"))
 
 
 if __name__ == "__main__":

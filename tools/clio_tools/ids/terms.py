@@ -5,9 +5,8 @@ import subprocess
 
 from clio_tools.csv import read_table
 from clio_tools.json import rows_in_parts
-from clio_tools.sql.engines import Sqlite
-from clio_tools.sql.filling import CALL
-from clio_tools.sql.steps import Script, exported_variables
+from clio_tools.sql.script import Script
+from clio_tools.sql.words import SQLITE
 from clio_tools.program import Refused, program
 from clio_tools.mapping.text import Mapping
 
@@ -41,7 +40,9 @@ class Terms:
         if show.returncode or printed != self.rules:
             raise Refused(f"out/rules.txt has other rules than mapping.clio: {AGAIN}")
         try:
-            self.script = Script("\n".join(lines[len(printed):]))
+            self.script = Script()
+            for line in lines:
+                self.script.add(line)
             self.mapping = Mapping(pathlib.Path("mapping.clio").read_bytes().decode("utf-8", "replace"))
             for name, function in FUNCTIONS.items():
                 self.base.create_function(name, 1, function, deterministic=True)
@@ -71,7 +72,7 @@ class Terms:
     def of_rule(self, rule):
         """The nulls of one rule, in the order in which they were given."""
         columns = self.match(rule)
-        names = [f"x{number}" for number in exported_variables(self.rules[rule])]
+        names = [f"x{number}" for number in self.script.rules[rule].exported]
         cells = "".join(f", m.c{column}" for column in range(columns))
         rows = self.base.execute(f"SELECT f.variable, f.number, f.place, m.rowid{cells} FROM folded AS f LEFT JOIN matches{rule} AS m ON m.rowid = f.place + 1"
                                  " WHERE f.rule = ? ORDER BY f.line", (rule,))
@@ -82,13 +83,13 @@ class Terms:
 
     def match(self, rule):
         """Makes the table of a rule's matches, its rows in order; answers how many columns it has."""
-        select, rest = self.script.matches[rule]
+        exported, rest = self.script.matches[rule]
         names = {table.name: (number, table) for number, table in enumerate(self.mapping.source)}
         tables = {alias: names[name] for name, alias in SOURCE.findall(rest)}
         place = lambda found: f"{found[1]}.c{tables[found[1]][1].columns.index(found[2])}"
-        select = CALL.sub(lambda found: Sqlite.conversions[found[1]].format(*found[2].split(", ")), CELL.sub(place, select))
+        select = ", ".join(f"{CELL.sub(place, SQLITE.exported(one))} AS c{column}" for column, one in enumerate(exported)) or "1"
         rest = CELL.sub(place, SOURCE.sub(lambda found: f"source{names[found[1]][0]} AS {found[2]}", rest))
-        columns = len(re.findall(r" AS c[0-9]+", select))
+        columns = len(exported)
         order = ", ".join(f"c{column}" for column in range(columns))
         self.base.execute(f"CREATE TEMP TABLE matches{rule} AS SELECT DISTINCT {select} FROM {rest}" + (f" ORDER BY {order}" if order else ""))
         return columns

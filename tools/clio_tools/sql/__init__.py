@@ -1,2 +1,1 @@
-"""The target of a mapping, made inside a database."""
-from clio_tools import reading  # noqa: F401
+"""clio-sql: the exchange inside a database."""

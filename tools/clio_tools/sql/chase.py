@@ -1,9 +1,11 @@
-"""The chase of keys and dependencies, round by round, by queries over whole tables.
+"""What keys and dependencies make equal, one after the other, by queries over whole tables."""
+from collections.abc import Sequence
+from typing import Any
 
-A cell of a column that may hold nulls is a text: `c` and a constant, or `n` and the numbers of a null. So constants come
-before nulls, and nulls are in their order, when cells are compared as bytes. In other columns constants stand as they are.
-"""
-from clio_tools.sql.engines import null_head
+from clio_tools.sql.script import Null
+from clio_tools.sql.stars import Part, Stars, part_of
+from clio_tools.sql.tables import NO_NULL, Table
+from clio_tools.sql.work import Row, Work
 
 
 class Clash(Exception):
@@ -13,111 +15,260 @@ class Clash(Exception):
 class Determination:
     """Rows of a table that agree on the left columns have to agree on the right ones."""
 
-    def __init__(self, target, left, right):
-        self.target, self.left = target, left
-        self.right = [column for column in right if column not in left]
+    def __init__(self, table: Table, left: Sequence[str], right: Sequence[str]) -> None:
+        self.table = table
+        self.left = [table.columns.index(name) for name in left]
+        self.right = [table.columns.index(name) for name in right if name not in left]
 
+    def feeds(self, other: "Determination") -> bool:
+        """Whether what it makes equal may be in the left columns of another one."""
+        return bool(self.table.all_heads(self.right) & other.table.all_heads(other.left))
 
-class Stars:
-    """Joins the pairs of the table `pair` to stars, each around the least of its cells."""
+    @property
+    def is_key(self) -> bool:
+        """Whether it leaves one row in a group."""
+        return len(self.left) + len(self.right) == len(self.table.columns)
 
-    def __init__(self, engine):
-        self.engine, self.steps = engine, 0
+    def is_simple(self) -> bool:
+        """Whether each null of the right columns stands once in the table: then groups share none."""
+        seen = self.table.all_heads(self.left)
+        for place in self.right:
+            cell = self.table.cells[place]
+            if cell.heads and (not cell.once or cell.heads & seen):
+                return False
+            seen = seen | cell.heads
+        return True
 
-    def join(self):
-        """Lesser neighbours pass on the least of theirs, until each cell has one lesser neighbour, which has none."""
-        make, least = self.engine.make, f"min({self.engine.bytes('v')}) AS v"
-        while not self.are_stars():
-            self.steps += 1
-            make("least", f"SELECT u, {least} FROM pair GROUP BY u", ["u"])
-            make("far", "SELECT DISTINCT p.u, coalesce(l.v, p.v) AS v FROM pair AS p LEFT JOIN least AS l ON l.u = p.v")
-            make("least", f"SELECT u, {least} FROM far GROUP BY u", ["u"])
-            make("pair", "SELECT u, v FROM least UNION SELECT f.v, l.v FROM far AS f JOIN least AS l ON l.u = f.u WHERE f.v <> l.v",
-                 ["u"])
+    def check_clash(self, work: Work, groups: str) -> None:
+        """Stops if a group, a row of a table with least and greatest constants, has two in a column."""
+        places = [place for place in self.right if self.table.cells[place].texts]
+        if places:
+            test = " OR ".join(f"c{place} <> z{place}" for place in places)
+            found = work.engine.rows(f"SELECT {', '.join(f'c{place}, z{place}' for place in places)} FROM {groups} WHERE {test} LIMIT 1", [])
+            if found:
+                self.raise_clash(places, found[0])
 
-    def are_stars(self):
-        """Whether they are; constants needn't be asked for lesser ones, which are a clash in the next round."""
-        twice = "SELECT 1 FROM pair GROUP BY u HAVING count(*) > 1 LIMIT 1"
-        onward = "SELECT 1 FROM pair AS q JOIN (SELECT DISTINCT v FROM pair WHERE v >= 'n') AS p ON q.u = p.v LIMIT 1"
-        return not self.engine.rows(twice) and not self.engine.rows(onward)
+    def raise_clash(self, places: Sequence[int], found: Sequence[Any]) -> None:
+        """Tells the first column of a group that has two constants."""
+        names = self.table.columns
+        for number, place in enumerate(places):
+            one, other = found[2 * number:2 * number + 2]
+            if one != other and one is not None:
+                texts = ['"%s"' % text.replace("\\", "\\\\").replace('"', '\\"') for text in (one, other)]
+                raise Clash(f"clash: table {self.table.name}, key ({', '.join(names[one] for one in self.left)}): {texts[0]} and {texts[1]}"
+                            f" in column {names[place]}")
+
+    def least_and_greatest(self) -> list[str]:
+        """The least of each right column in a group, and the greatest constant and null."""
+        parts = []
+        for place in self.right:
+            if self.table.cells[place].texts:
+                parts += [f"min(c{place}) AS c{place}", f"max(c{place}) AS z{place}"]
+            if self.table.cells[place].heads:
+                parts += [f"min(n{place}) AS n{place}", f"max(n{place}) AS x{place}"]
+        return parts
+
+    def has_more(self) -> list[str]:
+        """What is true of a group that isn't equal in the right columns yet."""
+        tests = []
+        for place in self.right:
+            cell = self.table.cells[place]
+            tests += [f"min(c{place}) <> max(c{place})"] * cell.texts
+            tests += [f"min(n{place}) <> max(n{place})"] * bool(cell.heads)
+            tests += [f"(min(n{place}) IS NOT NULL AND min(c{place}) IS NOT NULL)"] * bool(cell.heads and cell.texts)
+        return tests
 
 
 class Chase:
-    """Replaces nulls until all determinations hold. `replaced` is a table of every null that went, and what it became."""
+    """Replaces nulls until all determinations hold. `parts` are the tables of nulls that went."""
 
-    def __init__(self, engine, targets, determinations):
-        self.engine, self.targets, self.determinations = engine, targets, determinations
-        self.rounds, self.stars = 0, Stars(engine)
-        engine.make("replaced", "SELECT 'n' AS u, 'c' AS v WHERE 1 = 0")
+    def __init__(self, work: Work, tables: Sequence[Table], asked: Sequence[Determination]) -> None:
+        self.work, self.tables, self.asked = work, tables, [one for one in asked if one.right]
+        self.parts: list[Part] = []
+        self.waiting: list[Determination] = []
+        self.stars, self.rounds = Stars(work), 0
 
-    def run(self):
-        """All rounds."""
-        while self.find_pairs():
+    def run(self) -> None:
+        """All determinations, each after those that feed it; one is asked again if its left columns have changed."""
+        self.waiting = list(self.asked)
+        while self.waiting and not (self.work.engine.is_plan and self.rounds >= 2 * len(self.asked)):
+            one = next((one for one in self.waiting if not any(other.feeds(one) for other in self.waiting if other is not one)), self.waiting[0])
+            self.waiting.remove(one)
             self.rounds += 1
-            self.stars.join()
-            self.replace()
+            if one.is_key and one.is_simple():
+                self.ask_simple(one)
+            else:
+                self.ask(one)
 
-    def find_pairs(self):
-        """Lists what has to be equal now, each cell with the least of its group; answers whether there is anything."""
-        self.engine.make("pair", "SELECT 'n' AS u, 'c' AS v WHERE 1 = 0")
-        for one in self.determinations:
-            if one.right and one.target.is_new:
-                self.find_groups(one)
-        for target in self.targets:
-            target.is_new = False
-        self.engine.ready("pair")
-        return self.engine.number("SELECT count(*) FROM pair") > 0
+    def ask_simple(self, one: Determination) -> None:
+        """A key whose groups share no nulls: it makes one row of each group at once."""
+        part = Collapse(self.work, one).run()
+        if part:
+            self.wait_for(self.apply(part, one.table), [])
 
-    def find_groups(self, one):
-        """The groups of rows that agree on the left, with the least cell and the greatest constant of each column."""
-        least = [f"min({self.bytes(column)}) AS a{column}" for column in one.right]
-        constant = lambda column: f"CASE WHEN c{column} < 'n' THEN {self.bytes(column)} END" if column in one.target.heads else self.bytes(column)
-        greatest = [f"max({constant(column)}) AS z{column}" for column in one.right]
-        left = ", ".join(f"c{column}" for column in one.left)
-        self.engine.make("grouped", f"SELECT {left}, {', '.join(least + greatest)} FROM {one.target.work} GROUP BY {left} HAVING count(*) > 1")
-        if not self.engine.number("SELECT count(*) FROM grouped"):
-            return
-        self.check_clash(one)
-        same = " AND ".join(f"t.c{column} = g.c{column}" for column in one.left)
-        for column in one.right:
-            if column in one.target.heads:
-                self.engine.run(f"INSERT INTO pair SELECT DISTINCT t.c{column}, g.a{column} FROM {one.target.work} AS t JOIN grouped AS g"
-                                f" ON {same} WHERE t.c{column} <> g.a{column}")
+    def ask(self, one: Determination) -> None:
+        """A determination in general: it may have to be asked again."""
+        part = self.pairs(one)
+        if part:
+            self.wait_for(self.apply(part, None), [one])
 
-    def bytes(self, column):
-        return self.engine.bytes(f"c{column}")
+    def wait_for(self, changed: dict[str, set[int]], again: list[Determination]) -> None:
+        """Has those asked again whose left columns have changed."""
+        for other in self.asked:
+            if other not in self.waiting and (other in again or changed.get(other.table.name, set()) & set(other.left)):
+                self.waiting.append(other)
 
-    def check_clash(self, one):
-        """Stops if a group has two constants in a column."""
-        for column in one.right:
-            found = self.engine.rows(f"SELECT a{column}, z{column} FROM grouped WHERE z{column} <> a{column} LIMIT 1")
-            if found:
-                names, mark = one.target.columns, int(column in one.target.heads)
-                texts = ["\"%s\"" % text[mark:].replace("\\", "\\\\").replace('"', '\\"') for text in found[0]]
-                raise Clash(f"clash: table {one.target.name}, key ({', '.join(names[place] for place in one.left)}): "
-                            f"{texts[0]} and {texts[1]} in column {names[column]}")
+    def pairs(self, one: Determination) -> Part | None:
+        """What a determination makes equal: each null with the least of its group, joined to stars."""
+        table, tests = one.table, one.has_more()
+        if not tests:
+            return None
+        what = f"key of {table.name}"
+        if not table.work or table.is_loose:
+            table.put(self.work.made("t", table.query(distinct=True), table.listed(one.left), f"rows of {table.name}"))
+        by = table.listed(one.left)
+        groups = self.work.made("g", f"SELECT {', '.join(by + one.least_and_greatest())} FROM {table.work} AS t{' GROUP BY ' * bool(by)}{', '.join(by)}"
+                                     f" HAVING {' OR '.join(tests)}", by, what)
+        one.check_clash(self.work, groups)
+        queries = pair_queries(one, groups)
+        if not queries:
+            return None
+        pair = self.work.made("pair", f"SELECT DISTINCT * FROM ({' UNION ALL '.join(queries)}) AS q", ["u"], what)
+        if not self.work.any(pair, True):
+            return None
+        heads = table.all_heads(one.right)
+        return part_of(self.work, self.stars.join(pair), heads, heads, any(table.cells[place].texts for place in one.right))
 
-    def replace(self):
-        """Puts the centre of each star in the place of its other nulls."""
-        self.engine.make("gone", "SELECT u, v FROM pair WHERE u >= 'n'", ["u"])
-        self.engine.make("before", "SELECT r.u, coalesce(g.v, r.v) AS v FROM replaced AS r LEFT JOIN gone AS g ON g.u = r.v"
-                                   " UNION ALL SELECT u, v FROM gone")
-        self.engine.rename("before", "replaced")
-        length = len(null_head(0, 0))
-        moves = self.engine.rows(f"SELECT DISTINCT substr(u, 1, {length}), CASE WHEN v < 'n' THEN '' ELSE substr(v, 1, {length}) END FROM gone")
-        for target in self.targets:
-            self.replace_in(target, moves)
+    def apply(self, part: Part, done: Table | None) -> dict[str, set[int]]:
+        """Puts what nulls became into all tables and all earlier parts; answers the columns that may have changed, by table."""
+        for earlier in self.parts:
+            if earlier.after & part.before:
+                earlier.follow(self.work, part)
+        self.parts.append(part)
+        changed = {}
+        for table in self.tables:
+            places = [place for place, cell in enumerate(table.cells) if cell.heads & part.before]
+            if places:
+                changed[table.name] = set(places)
+                if table is done:
+                    for place in places:
+                        table.cells[place].heads |= part.after
+                else:
+                    self.replace_in(table, part, places)
+        return changed
 
-    def replace_in(self, target, moves):
-        """A table with its replaced nulls, each row once; only columns that may hold a null whose head has gone can be others."""
-        gone = {head for head, _ in moves}
-        places = [place for place, heads in target.heads.items() if heads & gone]
-        if not places:
-            return
-        for place in places:
-            target.heads[place] |= {after for head, after in moves if after and head in target.heads[place]}
-        cells = [f"coalesce(g{place}.v, t.c{place}) AS c{place}" if place in places else f"t.c{place}" for place in range(len(target.columns))]
-        joins = "".join(f" LEFT JOIN gone AS g{place} ON g{place}.u = t.c{place}" for place in places)
-        self.engine.make("other", f"SELECT DISTINCT {', '.join(cells)} FROM {target.work} AS t{joins}", by=target.by)
-        self.engine.rename("other", target.work)
-        target.is_new = True
+    def replace_in(self, table: Table, part: Part, places: Sequence[int]) -> None:
+        """A table with its replaced nulls; if a key will make its groups one row each anyway, by a view."""
+        query, old = table.query(distinct=False), table.copied_cells()
+        shown, joins = [], ""
+        for place, cell in enumerate(table.cells):
+            if place not in places:
+                shown += [f"t.{one}" for one in table.listed([place])]
+                continue
+            joins += f" LEFT JOIN {part.table} AS g{place} ON g{place}.u = t.n{place}"
+            if part.texts or cell.texts:
+                shown.append((f"coalesce(t.c{place}, g{place}.c)" if old[place].texts else f"g{place}.c") + f" AS c{place}")
+            shown.append(f"CASE WHEN g{place}.u IS NULL THEN t.n{place} ELSE g{place}.n END AS n{place}")
+            cell.heads |= part.after
+            cell.texts, cell.once = cell.texts or part.texts, False
+        self.fill(table, f"{', '.join(shown)} FROM ({query}) AS t{joins}")
+
+    def fill(self, table: Table, selected: str) -> None:
+        """Lets a table have what is selected."""
+        if any(one.table is table and one.is_key and one.is_simple() for one in self.waiting):
+            table.put(self.work.view("v", f"SELECT {selected}"), is_loose=True)
+        else:
+            table.put(self.work.made("t", f"SELECT DISTINCT {selected}", what=f"rows of {table.name}"))
+
+
+def pair_queries(one: Determination, groups: str) -> list[str]:
+    """The pairs (u, n or c) of a determination's groups."""
+    table, queries = one.table, []
+    for place in one.right:
+        if table.cells[place].heads:
+            queries.append(f"SELECT t.n{place} AS u, g.n{place} AS n, {table.words.no_text} AS c FROM {table.work} AS t JOIN {groups} AS g"
+                           f" ON {table.same('t', 'g', one.left)} WHERE t.n{place} <> g.n{place}")
+            if table.cells[place].texts:
+                queries.append(f"SELECT g.n{place} AS u, {NO_NULL} AS n, g.c{place} AS c FROM {groups} AS g WHERE g.n{place} IS NOT NULL AND g.c{place} IS NOT NULL")
+    return queries
+
+
+class Collapse:
+    """A simple key: one GROUP BY makes the merged table, shows clashes, and says of most groups what went."""
+
+    def __init__(self, work: Work, one: Determination) -> None:
+        self.work, self.one, self.table = work, one, one.table
+        self.opens = [place for place in one.right if self.table.cells[place].heads]
+
+    def run(self) -> Part | None:
+        """Merges; answers the part of nulls that went."""
+        table, one = self.table, self.one
+        by = table.listed(one.left)
+        grouped = f" GROUP BY {', '.join(by)}" if by else " HAVING count(*) > 0"
+        groups = self.work.made("g", f"SELECT {', '.join(by + one.least_and_greatest())} FROM ({table.query(distinct=False)}) AS t{grouped}", by,
+                                f"key of {table.name}")
+        many, filled = self.found(groups)
+        queries = [f"SELECT n{place} AS u, {NO_NULL} AS n, c{place} AS c FROM {groups} WHERE c{place} IS NOT NULL AND n{place} = x{place}"
+                   for place in filled]
+        queries += [query for place in many for query in self.of_many(groups, place)]
+        heads = table.all_heads(many), any(table.cells[place].texts for place in {*many, *filled})
+        before = table.all_heads([*many, *filled])
+        self.settle(groups)
+        if not queries:
+            return None
+        gone = self.work.made("gone", " UNION ALL ".join(queries), ["u"], f"nulls of {table.name} that went")
+        return part_of(self.work, gone, before, *heads)
+
+    def found(self, groups: str) -> tuple[list[int], list[int]]:
+        """The columns in which some group has several nulls, and those in which some has a null and a constant."""
+        any_of = "max(CASE WHEN {} THEN 1 ELSE 0 END)".format
+        cells = self.table.cells
+        texts = [place for place in self.one.right if cells[place].texts]
+        both = [place for place in self.opens if cells[place].texts]
+        clash = [any_of(" OR ".join(f"c{place} <> z{place}" for place in texts))] if texts else ["0"]
+        several = [any_of(f"n{place} <> x{place}") for place in self.opens]
+        mixed = [any_of(f"n{place} IS NOT NULL AND c{place} IS NOT NULL") for place in both]
+        row = self.work.row(f"SELECT {', '.join(clash + several + mixed)} FROM {groups}", (0, *[1] * (len(several) + len(mixed))))
+        if row[0]:
+            self.one.check_clash(self.work, groups)
+        return ([place for place, one in zip(self.opens, row[1:]) if one], [place for place, one in zip(both, row[1 + len(self.opens):]) if one])
+
+    def of_many(self, groups: str, place: int) -> list[str]:
+        """What went in a column of groups with several nulls, which are joined back to their rows."""
+        table = self.table
+        gone = Gone(groups, place, table.words.no_text, table.cells[place].texts)
+        if table.work:
+            return [gone.query(str(table.work), table.same("t", "g", self.one.left)) + f" AND t.n{place} IS NOT NULL"]
+        places = sorted({*self.one.left, place})
+        return [gone.query(f"({table.insert_query(insert, places)})", table.same("t", "g", self.one.left))
+                for insert in table.inserts if isinstance(insert.cells[place], Null)]
+
+    def settle(self, groups: str) -> None:
+        """Lets the table be a view of the groups, in which a cell is a constant or a null."""
+        shown = []
+        for place, cell in enumerate(self.table.cells):
+            if cell.texts:
+                shown.append(f"c{place}")
+            if cell.heads:
+                is_both = cell.texts and place in self.one.right
+                shown.append(f"CASE WHEN c{place} IS NULL THEN n{place} END AS n{place}" if is_both else f"n{place}")
+        self.table.put(self.work.view("v", f"SELECT {', '.join(shown)} FROM {groups}"))
+
+
+class Gone:
+    """The nulls of a column that aren't what their group became."""
+
+    def __init__(self, groups: str, place: int, no_text: str, texts: bool) -> None:
+        self.groups, self.place, self.no_text, self.texts = groups, place, no_text, texts
+
+    def query(self, rows: str, same: str) -> str:
+        """Of some rows, by what makes a row one of a group."""
+        n, c, gone = f"g.n{self.place}", self.no_text, f"g.n{self.place} <> t.n{self.place}"
+        if self.texts:
+            n, c = f"CASE WHEN g.c{self.place} IS NULL THEN g.n{self.place} END", f"g.c{self.place}"
+            gone = f"(g.c{self.place} IS NOT NULL OR g.n{self.place} <> t.n{self.place})"
+        return (f"SELECT t.n{self.place} AS u, {n} AS n, {c} AS c FROM {rows} AS t JOIN {self.groups} AS g ON {same}"
+                f" WHERE g.n{self.place} <> g.x{self.place} AND {gone}")
+
+
+__all__ = ["Chase", "Clash", "Determination", "Row"]

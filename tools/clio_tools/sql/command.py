@@ -1,85 +1,146 @@
 """Makes the target of a mapping inside a database: the joins, then what keys and dependencies make equal.
 
-    clio-sql postgres [--core] [CONNECTION]
-    clio-sql sqlite [--core] SOURCE.db TARGET.db
+    clio-sql postgres [--core] [--sessions N] [--verbose | --explain] [CONNECTION]
+    clio-sql sqlite [--core] [--verbose | --explain] SOURCE.db TARGET.db
     clio-sql postgres --servers FILE --source [CONNECTION]
-    clio-sql postgres --servers FILE [--core] [CONNECTION]
+    clio-sql postgres --servers FILE [--core] [--verbose] [CONNECTION]
 
-Run it in the folder of mapping.clio. The tables of the source stand in the schema `source` (in SQLite: in the file SOURCE.db), under the
-names and with the columns of the mapping; their cells are texts and never NULL. The target is made in the schema `target` (the
-file TARGET.db): its tables, with values as clio writes them, and `nulls` and `fold` with what nulls.csv and fold.csv have. Tables of
-these names that are there are replaced. CONNECTION is what `psql` takes. Where clio holds 4,000,000 cells, a database holds more.
+Run it in the folder of mapping.clio. The tables of the source are in the schema `source` (in SQLite: in the file SOURCE.db, which is only read),
+under the names and with the columns of the mapping; their cells are texts and never NULL. The target is made in the schema `target` (the file
+TARGET.db): its tables, with values as clio writes them, and `nulls` and `fold` with what nulls.csv and fold.csv have. Tables that an earlier run
+made there, or that have just these columns, are replaced; others are refused. CONNECTION is what `psql` takes. Where clio holds 4,000,000
+cells, a database holds more.
 
-In plain mode the target is the one that `clio exchange` writes. With --core, rows that other rules cover are left out, and it is said how
-many rows a reduction to the core would still have to look at, and in how many blocks; `fold` has what covers, keys and dependencies replaced.
-If there are no such rows, the target is called a core, and is the one that `clio exchange --core` writes, with its fold.
-If two constants contradict each other, the message of clio's status 3 is printed, and the status is 3. This tool isn't proved.
+In plain mode the target is the one that `clio exchange` writes. With --core, rows that other rules cover are left out, and what is left to reduce
+is fetched, reduced by `clio exchange --core`, and put back: the target is a core, or it is said what was not reduced, and why.
+If two constants contradict each other, a message of clio's status 3 is printed, and the status is 3. This tool isn't proved.
 
-With --servers the rows stand on several PostgreSQL servers: each line of FILE says how one is reached, as `host=db1 dbname=parts user=clio`. The database of
+All that is read of the source is of one state of it, and the target changes at the end in one transaction, or not at all; views, indexes and rights on
+its tables stay. A second run in the same database is refused. Work tables are in a schema of the run's own, which is dropped; they take a multiple
+of the source. --sessions N makes the matches and writes by N sessions at once. --verbose prints the statements with their seconds and rows;
+--explain prints all SQL and runs none. On a terminal the steps are shown as they are done.
+
+With --servers the rows are on several PostgreSQL servers: each line of FILE says how one is reached, as `host=db1 dbname=parts user=clio`. The database of
 CONNECTION runs the same SQL; there each table is a partitioned one whose parts are tables of the servers (by the extension postgres_fdw, which the
 tool sets up). With --source the tables of the source are made so, empty, and are then loaded through that database. In the databases of
-the servers the rows stand in schemas that begin with clio_. The source may also stand in the database of CONNECTION itself.
+the servers the rows are in schemas that begin with clio_. The source may also be in the database of CONNECTION itself.
 """
 import argparse
 import pathlib
 import sys
 
-from clio_tools.sql.chase import Clash
-from clio_tools.sql.engines import EngineError, Postgres, Sqlite
-from clio_tools.sql.servers import Servers
-from clio_tools.sql.whole import exchange
-from clio_tools.program import Refused, run
 from clio_tools.mapping.text import Mapping
+from clio_tools.program import Refused, harmless, remark, run
+from clio_tools.sql.chase import Clash
+from clio_tools.sql.exchange import Exchange
+from clio_tools.sql.plan import Plan
+from clio_tools.sql.postgres import Postgres
+from clio_tools.sql.script import shown
+from clio_tools.sql.servers import Servers
+from clio_tools.sql.sqlite import Sqlite
+from clio_tools.sql.words import POSTGRES, SQLITE
+from clio_tools.sql.work import Engine, Report, Work, silent
+
+NAME = "clio-sql"
 
 
-def asked(words):
+def asked(words: list[str]) -> argparse.Namespace:
     """What the words ask for."""
-    parser = argparse.ArgumentParser(prog="clio-sql", description="Makes the target of a mapping inside a database.",
+    parser = argparse.ArgumentParser(prog=NAME, description="Makes the target of a mapping inside a database.",
                                      epilog="`clio-sql postgres --help` has the options; the manual is man clio-sql.")
     engines = parser.add_subparsers(dest="engine", required=True)
     postgres, sqlite = engines.add_parser("postgres"), engines.add_parser("sqlite")
     for engine in postgres, sqlite:
-        engine.add_argument("--core", action="store_true")
-    postgres.add_argument("--servers", metavar="FILE")
-    postgres.add_argument("--source", action="store_true")
+        engine.add_argument("--core", action="store_true", help="make a core")
+        told = engine.add_mutually_exclusive_group()
+        told.add_argument("--verbose", action="store_true", help="print the statements as they are run")
+        told.add_argument("--explain", action="store_true", help="print all SQL, and run none")
+    postgres.add_argument("--servers", metavar="FILE", help="spread the rows over the servers of a file")
+    postgres.add_argument("--source", action="store_true", help="with --servers: make the source, empty")
+    postgres.add_argument("--sessions", metavar="N", type=int, default=1, help="work by so many sessions at once")
     postgres.add_argument("connection", metavar="CONNECTION", nargs="?")
     sqlite.add_argument("source_file", metavar="SOURCE.db")
     sqlite.add_argument("target_file", metavar="TARGET.db")
     found = parser.parse_args(words)
-    if found.engine == "postgres" and found.source and (found.core or not found.servers):
-        parser.error("--source asks for --servers, and not for --core")
+    if found.engine == "postgres":
+        check_words(parser, found)
     return found
 
 
-def engine_of(words):
+def check_words(parser: argparse.ArgumentParser, words: argparse.Namespace) -> None:
+    """Refuses options that don't go together."""
+    if words.source and (words.core or not words.servers):
+        parser.error("--source asks for --servers, and not for --core")
+    if words.servers and (words.explain or words.sessions > 1):
+        parser.error("--servers goes with neither --explain nor --sessions")
+    if not 1 <= words.sessions <= 64:
+        parser.error("--sessions takes a number from 1 to 64")
+
+
+class Teller:
+    """Tells on a terminal what is done, and with --verbose each statement."""
+
+    def __init__(self, verbose: bool) -> None:
+        self.verbose, self.steps = verbose, 0
+        self.is_shown = not verbose and sys.stderr.isatty()
+
+    def statement(self, sql: str, seconds: float, rows: int) -> None:
+        """A statement that was run."""
+        if self.verbose:
+            counted = f", {rows} rows" if rows >= 0 else ""
+            print(harmless(f"-- {seconds:.2f} s{counted}\n{sql};"), file=sys.stderr, flush=True)
+
+    def step(self, what: str, seconds: float, rows: int) -> None:
+        """A step that was done."""
+        self.steps += 1
+        if self.is_shown:
+            counted = f": {rows:,} rows" if rows >= 0 else ""
+            print(harmless(f"{NAME}: step {self.steps}, {what}{counted}, {seconds:.1f} s"), file=sys.stderr, flush=True)
+
+
+def engine_of(words: argparse.Namespace, teller: Teller) -> Engine:
     """The engine that the words ask for."""
+    if words.explain:
+        return Plan(SQLITE if words.engine == "sqlite" else POSTGRES)
     if words.engine == "sqlite":
-        if not pathlib.Path(words.source_file).is_file():
-            raise Refused(f"{words.source_file} is not there")
-        return Sqlite(words.source_file, words.target_file)
+        return Sqlite(words.source_file, words.target_file, teller.statement)
     if words.servers:
         lines = pathlib.Path(words.servers).read_text(encoding="utf-8").splitlines()
-        return Servers(words.connection, [line for line in lines if line.strip()])
-    return Postgres(words.connection)
+        return Servers(words.connection, lines, teller.statement)
+    return Postgres(words.connection, words.sessions, teller.statement)
 
 
-def work(given):
+def exchange(engine: Engine, mapping: Mapping, core: bool, sessions: int = 1, report: Report = silent) -> None:
+    """The whole exchange; prints how many rows each table has, and in core mode whether the target is a core."""
+    ended = Exchange(Work(engine, report), shown(core), mapping, core, sessions).run()
+    print("".join(f"{name} {number}\n" for name, number in ended.rows.items()), end="")
+    if ended.rest and not engine.is_plan:
+        remark(NAME, ended.rest.told())
+
+
+def work(given: list[str]) -> None:
+    """Runs the tool on its words."""
     words = asked(given)
+    teller = Teller(words.verbose)
     try:
-        engine = engine_of(words)
-        mapping = Mapping(pathlib.Path("mapping.clio").read_bytes().decode("utf-8", "replace"))
-        if words.engine == "postgres" and words.source:
-            engine.make_source(mapping.source)
-        else:
-            exchange(engine, mapping, words.core)
-        engine.close()
+        engine = engine_of(words, teller)
+        try:
+            mapping = Mapping(pathlib.Path("mapping.clio").read_bytes().decode("utf-8", "replace"))
+            if isinstance(engine, Servers) and words.source:
+                engine.make_source(mapping.source)
+            else:
+                exchange(engine, mapping, words.core, getattr(words, "sessions", 1), teller.step)
+        finally:
+            engine.close()
     except Clash as clash:
-        engine.close()
-        print(clash, file=sys.stderr)
+        print(harmless(str(clash)), file=sys.stderr)
         sys.exit(3)
-    except (EngineError, ValueError) as error:
+    except ValueError as error:
         raise Refused(str(error)) from None
 
 
-def main():
-    run("clio-sql", work)
+def main() -> None:
+    """Runs the tool."""
+    run(NAME, work)
+
+

@@ -1,80 +1,124 @@
-"""What the reduction to a core would still have to look at.
+"""What the reduction to a core still has to look at.
 
-Every homomorphism of the target into itself keeps constants. If a row is the only one of its table that agrees with it in
-the columns that hold constants or nulls known to be kept, it goes to itself, so its nulls are kept too. What is left when no
-more nulls become known so are rows with open nulls; rows that share an open null are in one block.
+Every homomorphism of the target into itself keeps constants. If a row is the only one of its table that agrees with it in the columns that hold
+constants or nulls known to be kept, it goes to itself, so its nulls are kept too. What is left when no more nulls become known so are
+rows with open nulls; rows that share an open null are in one block.
 """
-from clio_tools.sql.chase import Stars
+from collections.abc import Iterator, Sequence
+
+from clio_tools.sql.chase import Determination
+from clio_tools.sql.stars import Stars
+from clio_tools.sql.tables import Table, head_of
+from clio_tools.sql.work import Work
 
 
 class Rigid:
-    """The nulls known to be kept are in the table `known`."""
+    """The nulls known to be kept are those of known heads and those in the table `known`."""
 
-    def __init__(self, engine, targets):
-        self.engine, self.targets = engine, [target for target in targets if target.open]
-        self.rounds = 0
-        engine.make("known", "SELECT 'n' AS u WHERE 1 = 0")
+    def __init__(self, work: Work, tables: Sequence[Table], keys: Sequence[Determination]) -> None:
+        self.work, self.known_heads = work, known_by_keys(keys)
+        self.tables = [table for table in tables if self.opens(table)]
+        self.known = work.made("known", "SELECT CAST(0 AS bigint) AS u WHERE 1 = 0", ["u"])
 
-    def run(self):
+    def run(self) -> None:
         """Looks for rows that go to themselves until there are no more."""
-        before = -1
-        while (after := self.engine.number("SELECT count(*) FROM known")) > before:
-            before, self.rounds = after, self.rounds + 1
-            found = [part for target in self.targets for part in self.kept_of(target)]
-            self.engine.make("found", " UNION ".join(["SELECT u FROM known"] + found))
-            self.engine.make("known", "SELECT u FROM found", ["u"])
+        before, after = -1, 0
+        while self.tables and before < after:
+            before = after
+            found = [query for table in self.tables for query in self.kept_of(table)]
+            if not found:
+                return
+            self.known = self.work.made("known", " UNION ".join([f"SELECT u FROM {self.known}", *found]), ["u"], "nulls that stay")
+            after = self.work.number(f"SELECT count(*) FROM {self.known}", 0)
 
-    def marked(self, target):
-        """A table of the rows, in which a known null and a constant stay, and an open null is NULL."""
-        name = f"{target.work}_known"
-        cells = [f"CASE WHEN t.c{place} < 'n' OR k{place}.u IS NOT NULL THEN t.c{place} END AS c{place}"
-                 if place in target.open else f"t.c{place}" for place in range(len(target.columns))]
-        own = [f"t.c{place} AS o{place}" for place in target.open]
-        joins = "".join(f" LEFT JOIN known AS k{place} ON k{place}.u = t.c{place}" for place in target.open)
-        self.engine.make(name, f"SELECT {', '.join(cells + own)} FROM {target.work} AS t{joins}")
-        return name
+    def opens(self, table: Table) -> list[int]:
+        """The columns that may have nulls that aren't known to be kept."""
+        return [place for place, cell in enumerate(table.cells) if cell.heads - self.known_heads]
 
-    def kept_of(self, target):
+    def marked(self, table: Table) -> str:
+        """A work table of the rows: c as it is, o the null, k the null if it is known."""
+        shown, joins, opens = [], "", self.opens(table)
+        for place, cell in enumerate(table.cells):
+            shown += [f"t.c{place}"] * cell.texts
+            if cell.heads:
+                shown.append(f"t.n{place} AS o{place}")
+            if place in opens:
+                by_head = "".join(f"WHEN {head_of(f't.n{place}')} = {head} THEN t.n{place} " for head in sorted(cell.heads & self.known_heads))
+                shown.append(f"CASE {by_head}ELSE k{place}.u END AS k{place}" if by_head else f"k{place}.u AS k{place}")
+                joins += f" LEFT JOIN {self.known} AS k{place} ON k{place}.u = t.n{place}"
+        return self.work.made("marked", f"SELECT {', '.join(shown)} FROM ({table.query(distinct=True)}) AS t{joins}", key_columns(table, range(len(table.cells))))
+
+    def kept_of(self, table: Table) -> Iterator[str]:
         """Queries for the open nulls of rows that are the only ones with what is known of them."""
-        name = self.marked(target)
-        forms = self.engine.rows(f"SELECT DISTINCT {', '.join(f'CASE WHEN c{place} IS NULL THEN 1 ELSE 0 END' for place in target.open)} FROM {name}")
-        for form in forms:
-            hidden = [place for place, is_open in zip(target.open, form) if int(is_open)]
-            if hidden:
-                yield from self.alone(target, name, hidden)
+        name = self.marked(table)
+        for hidden in self.forms(table, name):
+            shown = [place for place in range(len(table.columns)) if place not in hidden]
+            key = key_columns(table, shown)
+            group = f" GROUP BY {', '.join(key)}" if key else ""
+            once = f"SELECT {', '.join([*key, 'count(*) AS number'])} FROM {name}{group} HAVING count(*) = 1"
+            for place in hidden:
+                yield (f"SELECT t.o{place} AS u FROM {name} AS t JOIN ({once}) AS o ON {same_key(table, shown, 't', 'o')}"
+                       f" WHERE {self.is_form(table, hidden, 't.')}")
 
-    def alone(self, target, name, hidden):
-        """Of rows with just these columns open: those to which no other row is equal in the other columns."""
-        shown = [place for place in range(len(target.columns)) if place not in hidden]
-        here = " AND ".join(f"t.c{place} IS {'NULL' if place in hidden else 'NOT NULL'}" for place in target.open)
-        key = lambda place: f"coalesce(a.c{place}, a.o{place})" if place in target.open else f"a.c{place}"
-        columns = ", ".join(f"{key(place)} AS c{place}" for place in shown)
-        group = f" GROUP BY {', '.join(key(place) for place in shown)}" if shown else ""
-        once = f"SELECT {columns + ', ' if shown else ''}count(*) AS number FROM {name} AS a{group} HAVING count(*) = 1"
-        same = " AND ".join(f"t.c{place} = o.c{place}" for place in shown) or "1 = 1"
-        for place in hidden:
-            yield f"SELECT t.o{place} FROM {name} AS t JOIN ({once}) AS o ON {same} WHERE {here}"
+    def forms(self, table: Table, name: str) -> list[list[int]]:
+        """The lists of columns that are open together in some row."""
+        opens = self.opens(table)
+        tests = ", ".join(f"CASE WHEN {is_open(place)} THEN 1 ELSE 0 END AS e{place}" for place in opens)
+        rows = self.work.engine.rows(f"SELECT DISTINCT {tests} FROM {name}", [(1,) * len(opens)])
+        forms = [[place for place, one in zip(opens, row) if one] for row in rows]
+        return sorted(form for form in forms if form)
 
-    def left(self):
+    def is_form(self, table: Table, hidden: Sequence[int], alias: str = "") -> str:
+        """That just these columns of a row are open."""
+        return " AND ".join(is_open(place, alias) if place in hidden else f"NOT {is_open(place, alias)}" for place in self.opens(table))
+
+    def left(self) -> tuple[int, int]:
         """How many rows have open nulls, and in how many blocks they are."""
         parts, rows = [], 0
-        for target in self.targets:
-            name = self.marked(target)
-            is_open = " OR ".join(f"c{place} IS NULL" for place in target.open)
-            rows += self.engine.number(f"SELECT count(*) FROM {name} WHERE {is_open}")
-            for place in target.open:
-                least = self.engine.least([f"CASE WHEN c{other} IS NULL THEN {self.engine.bytes(f'o{other}')} END" for other in target.open])
-                parts.append(f"SELECT o{place} AS u, {least} AS v FROM {name} WHERE c{place} IS NULL")
-        if not rows:
-            return 0, 0
-        self.engine.make("pair", " UNION ".join(parts))
-        return rows, self.blocks()
+        for table in self.tables:
+            name, opens = self.marked(table), self.opens(table)
+            rows += self.work.number(f"SELECT count(*) FROM {name} WHERE {' OR '.join(map(is_open, opens))}")
+            least = self.work.words.least_of([f"CASE WHEN {is_open(other)} THEN o{other} END" for other in opens])
+            parts += [f"SELECT o{place} AS u, {least} AS n, {self.work.words.no_text} AS c FROM {name} WHERE {is_open(place)}" for place in opens]
+        return (rows, self.blocks(parts)) if rows else (0, 0)
 
-    def blocks(self):
-        """The number of components of the nulls in `pair`."""
-        nulls = self.engine.number("SELECT count(DISTINCT u) FROM pair")
-        self.engine.run("DELETE FROM pair WHERE u = v")
-        if not self.engine.number("SELECT count(*) FROM pair"):
-            return nulls
-        Stars(self.engine).join()
-        return nulls - self.engine.number("SELECT count(DISTINCT u) FROM pair")
+    def blocks(self, parts: Sequence[str]) -> int:
+        """The number of connected groups of nulls, of queries for pairs."""
+        pair = self.work.made("pair", " UNION ".join(parts), ["u"])
+        nulls = self.work.number(f"SELECT count(DISTINCT u) FROM {pair}")
+        apart = self.work.made("pair", f"SELECT * FROM {pair} WHERE u <> n", ["u"])
+        return nulls - self.work.number(f"SELECT count(DISTINCT u) FROM {Stars(self.work).join(apart)}", 0)
+
+
+def is_open(place: int, alias: str = "") -> str:
+    """That a column of a marked row has a null that isn't known to be kept."""
+    return f"({alias}o{place} IS NOT NULL AND {alias}k{place} IS NULL)"
+
+
+def key_columns(table: Table, places: Sequence[int]) -> list[str]:
+    """The columns of marked rows that tell what is in some columns."""
+    return [("o" + name[1:] if name[0] == "n" else name) for name in table.listed(places)]
+
+
+def same_key(table: Table, places: Sequence[int], one: str, other: str) -> str:
+    """That two marked rows agree in some columns."""
+    tests = []
+    for place in places:
+        cell = table.cells[place]
+        for name in key_columns(table, [place]):
+            here, there = f"{one}.{name}", f"{other}.{name}"
+            tests.append(table.words.agree(here, there, "c" if name[0] == "c" else "n") if cell.texts and cell.heads else f"{here} = {there}")
+    return " AND ".join(tests) or "1 = 1"
+
+
+def known_by_keys(keys: Sequence[Determination]) -> set[int]:
+    """The heads of nulls of rows whose key has constants and known nulls: such a row goes to itself."""
+    known: set[int] = set()
+    more = True
+    while more:
+        before = len(known)
+        for one in keys:
+            if one.is_key and one.table.all_heads(one.left) <= known:
+                known |= one.table.all_heads(range(len(one.table.columns)))
+        more = len(known) > before
+    return known

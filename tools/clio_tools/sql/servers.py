@@ -1,149 +1,230 @@
-"""Several PostgreSQL servers as one. Each table is a partitioned one on the server that is asked: its rows stand on the others, each
-by a hash of some of its columns, as tables that postgres_fdw reads and writes there. The SQL stays the same.
+"""Several PostgreSQL servers as one. Each table is a partitioned one on the server that is asked: its rows are on the others, each by a hash of some
+of its columns, as tables that postgres_fdw reads and writes there. The SQL stays the same.
 
-In a database of the servers the tables stand in schemas that begin with the sign of the server, clio_ and a hash of how it is reached;
-in the database that is asked, the names of these tables stand in schemas of the same names with `_link`.
+In a database of the servers the tables are in schemas that begin with the sign of the server, clio_ and a hash of how it is reached, and work tables
+in a schema of the run. In the database that is asked, the names of these tables are in schemas with `_link`.
 """
 import hashlib
-import re
+from collections.abc import Iterator, Sequence
 
-from clio_tools.sql.engines import EngineError, Postgres
+from clio_tools.databases import postgres
+from clio_tools.databases.postgres import literal
+from clio_tools.program import Refused
+from clio_tools.sql.exchange import TableLike
+from clio_tools.sql.postgres import LEFT, LOCK, WORK, Postgres
+from clio_tools.sql.session import Log, Session, unlogged
+from clio_tools.sql.words import POSTGRES
+from clio_tools.sql.work import Made, Row
 
 KEYS = 32  # PostgreSQL takes no more columns in the key of a partition
-WORD = re.compile(r"\s*([a-z_]+)\s*=\s*('(?:[^'\\]|\\.)*'|(?:[^\s'\\]|\\.)*)(?=\s|$)")
 SETTINGS = "async_capable 'true', use_remote_estimate 'true', fetch_size '10000', batch_size '1000'"
+PARTS = """SELECT s.srvname::text, o.option_name, o.option_value FROM pg_inherits AS i JOIN pg_foreign_table AS f ON f.ftrelid = i.inhrelid
+ JOIN pg_foreign_server AS s ON s.oid = f.ftserver CROSS JOIN pg_options_to_table(f.ftoptions) AS o
+ WHERE i.inhparent = to_regclass({name}) ORDER BY i.inhrelid, o.option_name"""
+Columns = Sequence[tuple[str, str]]  # names, and types with their collations
 
 
-def literal(text):
-    """A text of SQL."""
-    return "'" + text.replace("'", "''") + "'"
+def reached(lines: Sequence[str]) -> list[postgres.Place]:
+    """How the servers of a list are reached; a line that says it otherwise is told by its number alone, as it may hold a password."""
+    places = []
+    for number, line in enumerate(lines, 1):
+        if not line.strip():
+            continue
+        try:
+            if "=" not in line and "://" not in line:
+                raise Refused("")
+            places.append(postgres.place_of(line.strip()))
+        except Refused:
+            raise Refused(f"line {number} of the servers is neither words as libpq knows them, such as host=db1 dbname=parts, nor a URI") from None
+    if not places or len({sign(place) for place in places}) < len(places):
+        raise Refused("the list has no server, or one twice")
+    return places
 
 
-class Place:
-    """How a server is reached, by words as libpq reads them; its sign doesn't hang on who asks."""
-
-    def __init__(self, line):
-        if not re.fullmatch(f"(?:{WORD.pattern})+\\s*", line):
-            raise EngineError(f"a server is given by words such as host=db1 dbname=parts, and not by: {line}")
-        words = {name: re.sub(r"\\(.)", r"\1", value[1:-1] if value.startswith("'") else value) for name, value in WORD.findall(line)}
-        self.user = {word: words.pop(word) for word in ("user", "password") if word in words}
-        self.server = words
-        self.sign = "clio_" + hashlib.sha256(repr(sorted(words.items())).encode()).hexdigest()[:12]
-
-    def connection(self):
-        """What psql takes, without the password, which would be seen by others."""
-        quoted = lambda text: text.replace("\\", "\\\\").replace("'", "\\'")
-        words = {**self.server, **{word: value for word, value in self.user.items() if word != "password"}}
-        return " ".join(f"{word}='{quoted(value)}'" for word, value in words.items())
-
-    def made_known(self):
-        """What makes the server known to the one that is asked."""
-        listed = lambda words: [f"{word} {literal(value)}" for word, value in words.items()]
-        yield f"CREATE SERVER IF NOT EXISTS {self.sign} FOREIGN DATA WRAPPER postgres_fdw OPTIONS ({', '.join([*listed(self.server), SETTINGS])})"
-        yield f"DROP USER MAPPING IF EXISTS FOR CURRENT_USER SERVER {self.sign}"
-        yield f"CREATE USER MAPPING FOR CURRENT_USER SERVER {self.sign}" + (f" OPTIONS ({', '.join(listed(self.user))})" if self.user else "")
+def sign(place: postgres.Place) -> str:
+    """The name of a server, which doesn't hang on who asks."""
+    words = sorted((word, value) for word, value in place.words.items() if word != "user")
+    return "clio_" + hashlib.sha256(repr(words).encode()).hexdigest()[:12]
 
 
-class Server(Postgres):
+def options(words: dict[str, str]) -> str:
+    """Words of a connection as the options of a server."""
+    return ", ".join(f"{word} {literal(value)}" for word, value in words.items())
+
+
+class Server:
     """One of the servers, which has a part of each table."""
 
-    def __init__(self, line):
-        self.place = Place(line)
-        self.sign = self.place.sign
-        self.start(self.place.connection(), self.place.user.get("password"))
-        self.run("SET client_min_messages = warning")
+    def __init__(self, place: postgres.Place, run: str, log: Log) -> None:
+        self.place, self.sign, self.run = place, sign(place), run
+        self.session = Session(place, log)
+        self.session.made("SET client_min_messages = warning")
+        if not self.session.values(f"SELECT pg_try_advisory_lock({LOCK + 1})")[0][0]:
+            raise Refused("another run of clio-sql is under way on one of the servers")
+        here = run.rsplit("_", 1)[0]  # the run, whose schemas are here too if the database that is asked has a part
+        for name, in self.session.values(LEFT.format(work=literal(WORK)) + f" AND NOT starts_with(nspname, {literal(here)})"):
+            self.session.made(f'DROP SCHEMA "{name}" CASCADE')
 
-    def schema(self, kind):
-        return f"{self.sign}_{kind}"
+    def schema(self, kind: str) -> str:
+        """Where its parts of some kind are: those of the source or the target, or work tables."""
+        return self.run if kind == "work" else f"{self.sign}_{kind}"
+
+    def link(self, kind: str) -> str:
+        """Where these have their names in the database that is asked."""
+        return f"{self.schema(kind)}_link"
+
+    def make_schemas(self) -> None:
+        """Makes its schemas."""
+        for kind in "source", "target", "work":
+            self.session.made(f"CREATE SCHEMA IF NOT EXISTS {self.schema(kind)}")
+        self.session.made(f"COMMENT ON SCHEMA {self.run} IS {literal(WORK)}")
+
+    def made_known(self) -> Iterator[str]:
+        """What makes the server known to the one that is asked; the last has the password."""
+        words = {word: value for word, value in self.place.words.items() if word != "user"}
+        user = {"user": self.place.words["user"]} if "user" in self.place.words else {}
+        yield f"CREATE SERVER IF NOT EXISTS {self.sign} FOREIGN DATA WRAPPER postgres_fdw OPTIONS ({', '.join(filter(None, [options(words), SETTINGS]))})"
+        yield f"DROP USER MAPPING IF EXISTS FOR CURRENT_USER SERVER {self.sign}"
+        found = options({**user, **self.place.secrets})
+        yield f"CREATE USER MAPPING FOR CURRENT_USER SERVER {self.sign}" + (f" OPTIONS ({found})" if found else "")
 
 
 class Servers(Postgres):
     """The database that is asked, whose tables are spread over the servers of a list."""
 
-    def __init__(self, connection, lines):
-        super().__init__(connection)
-        self.servers = [Server(line) for line in lines]
-        if len({server.sign for server in self.servers}) < len(lines) or not lines:
-            raise EngineError("the list has no server, or one twice")
+    def __init__(self, connection: str | None, lines: Sequence[str], log: Log = unlogged) -> None:
+        self.servers: list[Server] = []
+        self.unpublished: list[str] = []
+        self.number = 0
+        places = reached(lines)
+        super().__init__(connection, 1, log)
+        try:
+            self.servers = [Server(place, f"{self.schema}_{number}", log) for number, place in enumerate(places)]
+            self.set_up()
+        except BaseException:
+            self.close()
+            raise
+
+    def begin(self) -> None:
+        """Makes the schemas of the run; no transaction is begun, as others have to see the tables."""
+        self.is_one_snapshot = False
+        super().begin()
+        self.one.made("SET enable_partitionwise_join = on; SET enable_partitionwise_aggregate = on")
+
+    def set_up(self) -> None:
+        """Makes the servers known; the server that is asked logs no password, if this user can ask for that."""
         # in a schema that stays, as a server falls with its extension, and an extension with its schema
-        self.run("CREATE SCHEMA IF NOT EXISTS clio_servers; CREATE EXTENSION IF NOT EXISTS postgres_fdw SCHEMA clio_servers")
-        self.run("SET enable_partitionwise_join = on; SET enable_partitionwise_aggregate = on; SET enable_nestloop = off")
-        self.parts, self.made = {}, 0
+        self.one.made("CREATE SCHEMA IF NOT EXISTS clio_servers; CREATE EXTENSION IF NOT EXISTS postgres_fdw SCHEMA clio_servers")
+        for setting, value in ("log_statement", "none"), ("log_min_duration_statement", "-1"), ("log_min_error_statement", "panic"):
+            self.one.attempt(f"SET {setting} = {literal(value)}")
         for server in self.servers:
-            for statement in server.place.made_known():
-                self.run(statement)
-            self.clear(server)
-            for kind in "source", "target":
-                server.run(f"CREATE SCHEMA IF NOT EXISTS {server.schema(kind)}")
-                self.run(f"CREATE SCHEMA IF NOT EXISTS {server.schema(kind)}_link")
+            for statement in server.made_known():
+                self.one.run(statement)
+            server.make_schemas()
+            for kind in "source", "target", "work":
+                self.one.made(f"CREATE SCHEMA IF NOT EXISTS {server.link(kind)}")
+            self.one.made(f"COMMENT ON SCHEMA {server.link('work')} IS {literal(WORK)}")
+        for setting in "log_statement", "log_min_duration_statement", "log_min_error_statement":
+            self.one.attempt(f"RESET {setting}")
 
-    def clear(self, server):
-        """Leaves an empty place for what is worked on."""
-        for place, schema in (self, f"{server.schema('work')}_link"), (server, server.schema("work")):
-            place.run(f"DROP SCHEMA IF EXISTS {schema} CASCADE; CREATE SCHEMA {schema}")
-
-    def close(self):
-        """Drops what was worked on."""
-        self.run("DROP SCHEMA clio CASCADE")
-        for server in self.servers:
-            self.run(f"DROP SCHEMA {server.schema('work')}_link CASCADE")
-            server.run(f"DROP SCHEMA {server.schema('work')} CASCADE")
-
-    def spread(self, name, kind, part, columns, by, table="TABLE"):
-        """Makes an empty table whose rows stand on the servers, told apart by a hash of some columns."""
+    def spread(self, name: str, kind: str, part: str, columns: Columns, by: Sequence[str]) -> None:
+        """Makes an empty table whose rows are on the servers, told apart by a hash of some columns."""
         listed = ", ".join(f'"{column}" {sort}' for column, sort in columns)
-        self.run(f"CREATE TABLE {name} ({listed}) PARTITION BY HASH ({', '.join(by[:KEYS])})")
+        self.one.made(f"CREATE TABLE {name} ({listed}) PARTITION BY HASH ({', '.join(by[:KEYS])})")
         for place, server in enumerate(self.servers):
-            schema = server.schema(kind)
-            server.run(f"DROP TABLE IF EXISTS {schema}.{part}; CREATE {table} {schema}.{part} ({listed})")
-            self.run(f"CREATE FOREIGN TABLE {schema}_link.{part} PARTITION OF {name} FOR VALUES WITH (MODULUS {len(self.servers)}, REMAINDER {place})"
-                     f" SERVER {server.sign} OPTIONS (schema_name {literal(schema)}, table_name {literal(part.strip(chr(34)))})")
+            table = POSTGRES.table if kind == "work" else "TABLE"
+            server.session.made(f'DROP TABLE IF EXISTS {server.schema(kind)}."{part}"; CREATE {table} {server.schema(kind)}."{part}" ({listed})')
+            self.one.made(f'CREATE FOREIGN TABLE {server.link(kind)}."{part}" PARTITION OF {name}'
+                          f" FOR VALUES WITH (MODULUS {len(self.servers)}, REMAINDER {place})"
+                          f" SERVER {server.sign} OPTIONS (schema_name {literal(server.schema(kind))}, table_name {literal(part)})")
 
-    def columns(self, query, collation):
+    def columns(self, query: str, collation: str) -> Columns:
         """The names and types of the columns of a query."""
-        self.run(f"CREATE TEMPORARY VIEW shape AS {query}")
-        found = self.rows("SELECT attname, format_type(atttypid, atttypmod) FROM pg_attribute WHERE attrelid = 'shape'::regclass ORDER BY attnum")
-        self.run("DROP VIEW shape")
+        self.one.made(f"CREATE TEMPORARY VIEW shape AS {query}")
+        found = self.one.values("SELECT attname::text, format_type(atttypid, atttypmod) FROM pg_attribute"
+                                " WHERE attrelid = 'pg_temp.shape'::regclass ORDER BY attnum")
+        self.one.made("DROP VIEW pg_temp.shape")
         return [(name, sort + (collation if sort == "text" else "")) for name, sort in found]
 
-    def make(self, table, query, index=(), by=()):
-        self.drop(table)
-        self.made += 1
-        self.parts[table] = f"w{self.made}"
-        columns = self.columns(query, self.by_bytes)
-        self.spread(table, "work", self.parts[table], columns, [*(by or index or (name for name, _ in columns))], self.table)
-        self.run(f"INSERT INTO {table} {query}")
-        self.ready(table)
+    def make(self, table: Made) -> int:
+        self.spread_work(table)
+        rows = self.one.made(f"INSERT INTO {table.name} {table.query}")
+        self.analyze(table.name)
+        return rows
 
-    def drop(self, table):
-        """Drops a work table, if it is there."""
-        part = self.parts.pop(table, None)
-        if part:
-            self.run(f"DROP TABLE {table}")
-            for server in self.servers:
-                server.run(f"DROP TABLE {server.schema('work')}.{part}")
+    def spread_work(self, table: Made) -> None:
+        """Makes an empty work table."""
+        columns = self.columns(table.query, self.words.by_bytes)
+        self.spread(table.name, "work", table.name, columns, list(table.by) or [name for name, _ in columns])
 
-    def rename(self, table, name):
-        self.drop(name)
-        self.run(f"ALTER TABLE {table} RENAME TO {name}")
-        self.parts[name] = self.parts.pop(table)
-
-    def ready(self, table):
+    def analyze(self, name: str) -> None:
+        """Tells the servers that a work table has its rows."""
         for server in self.servers:
-            server.run(f"ANALYZE {server.schema('work')}.{self.parts[table]}")
+            server.session.made(f"ANALYZE {server.schema('work')}.{name}")
 
-    def write(self, name, query):
-        self.run(f'DROP TABLE IF EXISTS target."{name}"')
-        columns = self.columns(query, "")
-        self.spread(f'target."{name}"', "target", f'"{name}"', columns, [f'"{column}"' for column, _ in columns])
-        self.run(f'INSERT INTO target."{name}" {query}')
+    def make_all(self, tables: Sequence[Made]) -> None:
+        for table in tables:
+            self.spread_work(table)
+        with self.one.transaction("BEGIN ISOLATION LEVEL REPEATABLE READ"):
+            for table in tables:
+                self.one.made(f"INSERT INTO {table.name} {table.query}")
+        for table in tables:
+            self.analyze(table.name)
 
-    def make_source(self, tables):
+    def load(self, name: str, columns: Sequence[str], rows: Sequence[Row]) -> None:
+        parted = [column.split(" ", 1) for column in columns]
+        self.spread(name, "work", name, [(column, sort) for column, sort in parted], [parted[0][0]])
+        self.one.copy_rows_in(name, ([None if cell is None else str(cell) for cell in row] for row in rows))
+        self.analyze(name)
+
+    def write(self, name: str, columns: Sequence[str], parts: Sequence[str]) -> None:
+        self.prepared.append((name, columns, parts))
+        part = f"{self.schema.removeprefix('clio_run_')}_{len(self.prepared)}"
+        self.unpublished.append(part)
+        table = f'{self.made_in}."{name}"'
+        self.spread(table, "target", part, self.columns(parts[0], ""), [f'"{column}"' for column in columns])
+        self.counts[name] = sum(self.one.made(f"INSERT INTO {table} {query}") for query in parts)
+
+    def publish(self) -> dict[str, int]:
+        old = [found for name, _, _ in self.prepared for found in self.parts_of(f'target."{name}"')]
+        with self.one.transaction():
+            self.one.made("SET LOCAL lock_timeout = '60s'; CREATE SCHEMA IF NOT EXISTS target")
+            self.refilled.clear()  # what hangs on a table here has it refused
+            for name, columns, _ in self.prepared:
+                self.put(name, columns)
+        self.unpublished.clear()
+        for server in self.servers:
+            for schema, part in [found[1:] for found in old if found[0] == server.sign]:
+                server.session.attempt(f'DROP TABLE IF EXISTS {schema}."{part}"')
+        return self.counts
+
+    def parts_of(self, name: str) -> list[tuple[str, str, str]]:
+        """The tables of servers that have the rows of a table: the sign of the server, its schema and its name."""
+        found = self.one.values(PARTS.format(name=literal(name)))
+        pairs = zip(found[::2], found[1::2])  # schema_name and table_name of each part
+        return [(one[0], one[2], other[2]) for one, other in pairs]
+
+    def make_source(self, tables: Sequence[TableLike]) -> None:
         """Makes the tables of the source, empty, for whoever loads them."""
-        self.run("CREATE SCHEMA IF NOT EXISTS source")
+        self.one.made("CREATE SCHEMA IF NOT EXISTS source")
         for table in tables:
             columns = [(column, "text") for column in table.columns]
-            self.spread(f'source."{table.name}"', "source", f'"{table.name}"', columns, [f'"{column}"' for column in table.columns])
+            self.spread(f'source."{table.name}"', "source", table.name, columns, [f'"{column}"' for column in table.columns])
 
-    def bytes(self, expression):
-        return expression  # the columns of all work tables are made so, and what compares them can be done where they stand
+    def close(self) -> None:
+        """Drops what was worked on, here and on the servers."""
+        for session in self.sessions:
+            session.attempt("ROLLBACK")
+            for schema in (self.schema, self.made_in, *(server.link("work") for server in self.servers)):
+                session.attempt(f"DROP SCHEMA IF EXISTS {schema} CASCADE")
+            for server in self.servers:
+                for part in self.unpublished:
+                    session.attempt(f'DROP FOREIGN TABLE IF EXISTS {server.link("target")}."{part}"')
+            session.close()
+        for server in self.servers:
+            server.session.attempt(f"DROP SCHEMA IF EXISTS {server.schema('work')} CASCADE")
+            for part in self.unpublished:
+                server.session.attempt(f'DROP TABLE IF EXISTS {server.schema("target")}."{part}"')
+            server.session.close()
+
+

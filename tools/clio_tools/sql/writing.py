@@ -1,57 +1,112 @@
-"""The tables that are left: the target, its nulls, and the fold."""
-from clio_tools.sql.steps import exported_variables
+"""The tables that are left, with values as clio writes them: the target, its nulls, and the fold."""
+from collections.abc import Sequence
+
+from clio_tools.sql.script import Insert, Null, Script
+from clio_tools.sql.stars import Part
+from clio_tools.sql.tables import SHIFT, Heads, Table, code, head_of
+from clio_tools.sql.words import Words, quoted
+from clio_tools.sql.work import Work
 
 
-def constant_text(cell, mark=""):
-    """A constant as clio writes it; in columns that may hold nulls the chase holds it with a mark."""
-    plain = f"substr({cell}, 2)" if mark else cell
-    return f"CASE WHEN {cell} LIKE '{mark}?%' THEN '?' || {plain} ELSE {plain} END"
+def escaped(cell: str) -> str:
+    """A constant as clio writes it."""
+    return f"CASE WHEN {cell} LIKE '?%' THEN '?' || {cell} ELSE {cell} END"
 
 
-def null_text(cell):
-    """A null as clio writes it."""
-    return "'?' || " + " || '.' || ".join(f"CAST(substr({cell}, {start}, {length}) AS BIGINT)" for start, length in ((2, 5), (8, 5), (14, 10)))
+class Names:
+    """Names of nulls and texts of cells."""
+
+    def __init__(self, heads: Heads, words: Words) -> None:
+        self.heads, self.words = heads, words
+
+    def head(self, number: int) -> str:
+        """How the names of a head begin."""
+        return quoted(f"?{self.heads.nulls[number].rule}.{self.heads.nulls[number].variable}.")
+
+    def null(self, number: str, heads: set[int]) -> str:
+        """The name of a null whose head is one of some."""
+        if len(heads) == 1:
+            head = next(iter(heads))
+            return f"{self.head(head)} || ({number} - {head * SHIFT})"
+        whens = " ".join(f"WHEN {head} THEN {self.head(head)}" for head in sorted(heads))
+        return f"CASE {head_of(number)} {whens} END || ({number} % {SHIFT})"
+
+    def cell(self, c: str, n: str, texts: bool, heads: set[int]) -> str:
+        """A cell as clio writes it."""
+        if not heads:
+            return escaped(c)
+        if not texts:
+            return self.null(n, heads)
+        return f"CASE WHEN {c} IS NULL THEN {self.null(n, heads)} WHEN {c} LIKE '?%' THEN '?' || {c} ELSE {c} END"
+
+    def column(self, expression: str, name: str) -> str:
+        """A column of the target."""
+        return f'({expression}){self.words.by_language} AS "{name}"'
 
 
-def text(cell):
-    """A cell of a column that may hold nulls as clio writes it."""
-    return f"CASE WHEN {cell} < 'n' THEN {constant_text(cell, 'c')} ELSE {null_text(cell)} END"
+class Writer:
+    """Writes all tables; each is made by queries that can run side by side."""
+
+    def __init__(self, work: Work, script: Script, heads: Heads, parts: Sequence[Part], split: int) -> None:
+        self.work, self.script, self.heads, self.parts, self.split = work, script, heads, parts, split
+        self.names = Names(heads, work.words)
+
+    def write(self, tables: Sequence[Table]) -> None:
+        """The target, its nulls, and the fold."""
+        for table in tables:
+            with self.work.step(f"writing {table.name}"):
+                self.work.engine.write(table.name, table.columns, self.table(table))
+        with self.work.step("writing nulls"):
+            self.work.engine.write("nulls", ["null", "variable", "value"], self.nulls() or [nothing("null", "variable", "value")])
+        with self.work.step("writing fold"):
+            self.work.engine.write("fold", ["null", "value"], [self.fold(part) for part in self.parts] or [nothing("null", "value")])
+
+    def table(self, table: Table) -> list[str]:
+        """The queries for a table."""
+        cells = ", ".join(self.names.column(self.names.cell(f"t.c{place}", f"t.n{place}", cell.texts, cell.heads), name)
+                          for place, (cell, name) in enumerate(zip(table.cells, table.columns)))
+        if table.work or not table.inserts or not all(map(table.is_apart, table.inserts)):
+            return [f"SELECT {cells} FROM ({table.query(distinct=True)}) AS t"]
+        return [f"SELECT {cells} FROM ({table.insert_query(insert, where=where)}) AS t" for insert in table.inserts for where in self.wheres(" WHERE ")]
+
+    def wheres(self, word: str) -> list[str]:
+        """Conditions on places that part the rows of matches."""
+        return [f"{word}m.place % {self.split} = {number}" for number in range(self.split)] if self.split > 1 else [""]
+
+    def nulls(self) -> list[str]:
+        """For each null that is left the values that its rule exports at its place."""
+        return [self.nulls_of(head, where) for head, null in enumerate(self.heads.nulls) if self.script.rules[null.rule].exported
+                for where in self.wheres(" AND ")]
+
+    def nulls_of(self, head: int, also: str) -> str:
+        """The nulls of a head: those of the matches that didn't go."""
+        null = self.heads.nulls[head]
+        variables = self.script.rules[null.rule].exported
+        gone = [part.table for part in self.parts if head in part.before and not part.is_cover]
+        where = " WHERE 1 = 1" + also + "".join(f" AND NOT EXISTS (SELECT 1 FROM {table} AS g WHERE g.u = {code(head, 'm.place')})" for table in gone)
+        source, variable, value = f"{matches_of(self.script.inserts, null.rule)} AS m", quoted(f"x{variables[0]}"), escaped("m.c0")
+        if len(variables) > 1:
+            listed = ", ".join(f"({column}, 'x{one}')" for column, one in enumerate(variables))
+            source += f" CROSS JOIN (VALUES {listed}) AS v"
+            whens = " ".join(f"WHEN {column} THEN {escaped(f'm.c{column}')}" for column in range(len(variables)))
+            variable, value = "v.column2", f"CASE v.column1 {whens} END"
+        columns = [(f"{self.names.head(head)} || m.place", "null"), (variable, "variable"), (value, "value")]
+        return f"SELECT {', '.join(self.names.column(*one) for one in columns)} FROM {source}{where}"
+
+    def fold(self, part: Part) -> str:
+        """The nulls that went, with what they became."""
+        value = self.names.cell("g.c", "g.n", part.texts, part.after)
+        return f"SELECT {self.names.column(self.names.null('g.u', part.before), 'null')}, {self.names.column(value, 'value')} FROM {part.table} AS g"
 
 
-def write_targets(engine, targets):
-    """The target's tables; answers the rows of each."""
-    counts = []
-    for target in targets:
-        texts = [text(f"c{place}") if place in target.heads else constant_text(f"c{place}") for place in range(len(target.columns))]
-        cells = ", ".join(f'({one}){engine.by_language} AS "{name}"' for one, name in zip(texts, target.columns))
-        engine.write(target.name, f"SELECT {cells} FROM {target.work}")
-        counts.append((target.name, engine.number(f"SELECT count(*) FROM {target.work}")))
-    return counts
+def matches_of(inserts: Sequence[Insert], rule: int) -> str:
+    """The table of matches from which a rule inserts."""
+    return next(insert.matches for insert in inserts if insert.rule == rule)
 
 
-def write_fold(engine):
-    """The nulls that keys and dependencies replaced."""
-    engine.write("fold", f'SELECT ({null_text("u")}){engine.by_language} AS "null", ({text("v")}){engine.by_language} AS value FROM replaced')
-    return engine.number("SELECT count(*) FROM replaced")
+def nothing(*names: str) -> str:
+    """A query without rows."""
+    return "SELECT " + ", ".join(f"CAST('' AS text) AS \"{name}\"" for name in names) + " WHERE 1 = 0"
 
 
-def write_nulls(engine, targets, rules):
-    """For each null of the target the values that its rule exports at its place."""
-    parts = [f"SELECT c{place} AS cell FROM {target.work} WHERE c{place} >= 'n'" for target in targets for place in target.heads]
-    once = " UNION ".join(parts) if len(parts) > 1 else "SELECT DISTINCT" + (parts or ["SELECT 'n00000.00000.0000000000' AS cell WHERE 1 = 0"])[0][6:]
-    engine.make("standing", f"SELECT {null_text('cell')} AS name, CAST(substr(cell, 2, 5) AS BIGINT) AS rule, CAST(substr(cell, 14, 10) AS BIGINT) AS place"
-                            f" FROM ({once}) AS s")
-    engine.write("nulls", """SELECT '' AS "null", '' AS variable, '' AS value WHERE 1 = 0""")
-    for number in sorted({int(head[1:6]) for target in targets for heads in target.heads.values() for head in heads}):
-        write_nulls_of(engine, number, exported_variables(rules[number]))
-    return engine.number("SELECT count(*) FROM target.nulls")
-
-
-def write_nulls_of(engine, number, variables):
-    """The nulls of one rule: each once for every variable that the rule exports."""
-    if not variables:
-        return
-    places = ", ".join(f"({column}, 'x{variable}')" for column, variable in enumerate(variables))
-    value = "CASE v.column1 " + " ".join(f"WHEN {column} THEN m.c{column}" for column in range(len(variables))) + " END"
-    engine.run(f"INSERT INTO target.nulls SELECT name, variable, {constant_text('value')} FROM (SELECT s.name, v.column2 AS variable, {value} AS value"
-               f" FROM standing AS s JOIN m{number} AS m ON m.place = s.place CROSS JOIN (VALUES {places}) AS v WHERE s.rule = {number}) AS d")
+__all__ = ["Names", "Null", "Writer"]

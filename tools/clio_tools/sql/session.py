@@ -1,0 +1,70 @@
+"""A session of a PostgreSQL server: it logs its statements, and says of what goes wrong what became of the target."""
+import time
+from collections.abc import Callable, Sequence
+from typing import TYPE_CHECKING, Any, cast
+
+from clio_tools.databases import postgres
+from clio_tools.sql.work import Row
+
+if TYPE_CHECKING:
+    import psycopg
+
+CAUSES = {
+    "53100": "the disk of the server is full",
+    "53200": "the server is out of memory",
+    "55P03": "a table that is to be replaced was in use for more than a minute",
+    "40P01": "another session and this one waited for each other",
+    "57014": "the statement was cancelled",
+    "57P01": "the server was stopped",
+    "57P02": "the server has crashed",
+}
+Log = Callable[[str, float, int], None]  # a statement, its seconds and its rows
+
+
+def unlogged(sql: str, seconds: float, rows: int) -> None:
+    """Logs nothing."""
+
+
+class Session(postgres.Session):
+    """A session in which each statement is a transaction of its own, unless one is begun. A statement whose client is gone ends."""
+
+    def __init__(self, connection: str | postgres.Place | None, log: Log = unlogged) -> None:
+        self.log, self.is_begun = log, False
+        super().__init__(connection)
+        if self.connection.info.server_version >= 140000:
+            self.attempt("SET client_connection_check_interval = '5s'")
+        self.is_begun = True
+
+    def _error(self, error: "psycopg.Error") -> postgres.DatabaseError:
+        """What the server says, before it the cause in plain words, and after it what became of the target."""
+        found = super()._error(error)
+        cause = CAUSES.get(found.sqlstate or "")
+        if not cause and found.sqlstate is None and self.is_begun:
+            cause = "the connection is lost"
+        said = f"{cause}: {found.cause}" if cause else found.cause
+        return postgres.DatabaseError(f"{said}; the target is as it was" if self.is_begun else said, found.sqlstate)
+
+    def asked(self, sql: str) -> "psycopg.Cursor[Any]":
+        """Runs statements."""
+        began = time.monotonic()
+        with self._told():
+            cursor = self.connection.execute(cast(Any, sql))
+        self.log(sql, time.monotonic() - began, cursor.rowcount)
+        return cursor
+
+    def made(self, sql: str) -> int:
+        """Runs a statement; answers how many rows it made, or -1."""
+        return self.asked(sql).rowcount
+
+    def values(self, query: str) -> Sequence[Row]:
+        """The rows of a query, with numbers as numbers."""
+        cursor = self.asked(query)
+        with self._told():
+            return cursor.fetchall()
+
+    def attempt(self, sql: str) -> None:
+        """Runs a statement that may fail."""
+        try:
+            self.run(sql)
+        except postgres.DatabaseError:
+            pass

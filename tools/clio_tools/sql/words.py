@@ -1,0 +1,75 @@
+"""The words in which the SQL of engines differs. All other SQL of the exchange is the same for each."""
+import re
+from dataclasses import dataclass
+
+from clio_tools.program import Refused
+
+CALL = re.compile(r'"([A-Za-z_][A-Za-z0-9_]*)"\((.*)\)')
+COLUMN = re.compile(r'a[0-9]+\."[^"]+"')
+
+
+def quoted(text: str) -> str:
+    """A text of SQL."""
+    return "'" + text.replace("'", "''") + "'"
+
+
+@dataclass(frozen=True)
+class Words:
+    """A dialect of SQL."""
+    name: str
+    table: str  # what a work table is made as
+    view: str  # what a work view is made as
+    by_bytes: str  # has texts compared by their bytes
+    by_language: str  # has them compared as the engine likes it
+    least: str  # the least of some cells that isn't NULL
+    cell: str  # one of those cells
+    conversions: dict[str, str]
+    tests: dict[str, str]
+    has_indexes: bool  # whether joins need them
+    has_statistics: bool  # whether the engine has to be told that a table has its rows
+
+    def text(self, literal: str) -> str:
+        """A literal of SQL as a text that is compared by its bytes."""
+        return f"CAST({literal} AS text){self.by_bytes}"
+
+    @property
+    def no_text(self) -> str:
+        """The constant of a cell that has a null."""
+        return self.text("NULL")
+
+    def least_of(self, cells: list[str]) -> str:
+        """The least of some cells that isn't NULL."""
+        return self.least.format(", ".join(self.cell.format(cell) for cell in cells))
+
+    def agree(self, one: str, other: str, kind: str) -> str:
+        """That two cells are equal, of which each may be NULL."""
+        if self.has_indexes:
+            return f"{one} IS {other}"
+        nothing = "''" if kind == "c" else "-1"
+        return f"coalesce({one}, {nothing}) = coalesce({other}, {nothing})"
+
+    def exported(self, expression: str) -> str:
+        """An expression of a script: a column, or a conversion of columns."""
+        if COLUMN.fullmatch(expression):
+            return expression
+        call = CALL.fullmatch(expression)
+        if not call or call[1] not in self.conversions:
+            raise Refused(f"clio-sql knows no conversion {call[1] if call else expression}")
+        return self.conversions[call[1]].format(*call[2].split(", "))
+
+    def passes(self, column: str, test: str) -> str:
+        """That a column passes a row test."""
+        if test not in self.tests:
+            raise Refused(f"clio-sql knows no row test {test}")
+        return self.tests[test].format(column)
+
+
+POSTGRES = Words(
+    name="PostgreSQL", table="UNLOGGED TABLE", view="VIEW", by_bytes=' COLLATE "C"', by_language=' COLLATE "default"', least="LEAST({})", cell="{}",
+    conversions={"trim": "btrim({0}, ' ')", "digits": "regexp_replace({0}, '[^0123456789]', '', 'g')", "pair": "{0} || ' ' || {1}"},
+    tests={"filled": "{0} <> ''", "numeric": "{0} ~ '^[0123456789]+$'"}, has_indexes=False, has_statistics=True)
+
+SQLITE = Words(
+    name="SQLite", table="TABLE", view="TEMP VIEW", by_bytes=" COLLATE BINARY", by_language="", least="(SELECT min(column1) FROM (VALUES {}))", cell="({})",
+    conversions={"trim": "trim({0}, ' ')", "digits": "clio_digits({0})", "pair": "{0} || ' ' || {1}"},
+    tests={"filled": "{0} <> ''", "numeric": "({0} <> '' AND {0} NOT GLOB '*[^0-9]*')"}, has_indexes=True, has_statistics=False)
