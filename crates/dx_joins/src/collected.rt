@@ -5,6 +5,7 @@ ghost use Rattle.dx_base.specs.Members.{◌∈◌, ◌⊆◌};
 ghost use Rattle.dx_instance.specs.Cells.{NumbersAscend};
 ghost use Rattle.dx_joins.specs.Collecting.{AreThose, Collects, FirstAscend, MoreThan};
 
+use dx_base::no_number_left;
 use dx_instance::Rows;
 use std::alloc::{AllocError, Global};
 use std::cmp::Ordering;
@@ -114,8 +115,9 @@ impl Collected {
         if ends_with(&self.rows, row) {
             return Ok(false);
         }
-        if self.rows.count() == u32::MAX {
-            return Err(AllocError);
+        let count = self.rows.count();
+        if count == u32::MAX {
+            return Err(no_number_left(u64::from(count)));
         }
         let ascending = ascending_with(&self.rows, self.ascending, row);
         self.rows.push(row)?;
