@@ -8,7 +8,7 @@ ghost use Rattle.dx_used.specs.Named.{AreExact, IsNamed, ReadNamed};
 ghost use Rattle.dx_used.specs.Counting.{AreNewWhere, AreRead, AreUsed, CountsCells, CellHasPlace, KeepMarks, ReadsNamed, UsesOnlyOf};
 
 use crate::mentions::{is_idle, mentions_of};
-use dx_base::Items;
+use dx_base::{Items, no_number_left};
 use dx_lines::Condition;
 use dx_model::{Cell, Rule};
 use std::alloc::{AllocError, Global};
@@ -121,12 +121,13 @@ pub fn used_columns(
     ensures named { IfOk result (λ used. ReadNamed used.items conditions.now) }
     ensures exact { IfOk result (λ used. Each rules.now IsRule → AreExact rules.now conditions.now used.items) }
 {
+    let Ok(count) = u32::try_from(widths.len()) else {
+        return Err(no_number_left(widths.len() as u64));
+    };
     let mut used = Vec::with_capacity(alloc, widths.len())?;
-    let mut table = 0u32;
-    for width in widths {
-        let marks = marks_of(alloc, rules, conditions, table, *width)?;
+    for table in 0..count {
+        let marks = marks_of(alloc, rules, conditions, table, widths[table as usize])?;
         used.push(Items::from_vec(marks))?;
-        table = table.checked_add(1).ok_or(AllocError)?;
     }
     Ok(used)
 }
