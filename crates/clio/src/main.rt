@@ -23,6 +23,7 @@ ghost use Rattle.clio.specs.Exit.{IsExit};
 
 use clio_folder::{FolderInputs, FolderOutputs};
 use clio_status::status_and_message;
+use clio_terminal::shown;
 use clio_top::{Ending, run};
 use dx_base::{Items, Text};
 use dx_funcs::{Host, Meaning, Shipped, Tests, check_row, convert, shipped_list, shipped_tests};
@@ -61,6 +62,13 @@ fn words(rt: &(impl Env + AllocGlobal)) -> io::Result<Vec<Text>> {
     Ok(words)
 }
 
+// Says a message to standard error, as a terminal may be given it. If there is no memory for that, nothing is said.
+fn tell(rt: &(impl Eprint + AllocGlobal), message: &Text) {
+    if let Ok(line) = shown(rt.alloc(), message.as_str()) {
+        let _ = eprintln!(rt; "{line}");
+    }
+}
+
 // Says the message of an ending, and gives its status.
 fn ended(rt: &(impl Eprint + AllocGlobal), ending: Ending) -> ExitCode
     ensures { exit_status result ≡ status_of ending }
@@ -68,7 +76,7 @@ fn ended(rt: &(impl Eprint + AllocGlobal), ending: Ending) -> ExitCode
     let (status, message) = status_and_message(rt.alloc(), ending);
     if status != 0 {
         if let Ok(message) = message {
-            let _ = eprintln!(rt; "{message}");
+            tell(rt, &message);
         }
     }
     ExitCode::from(status)

@@ -32,7 +32,8 @@ impl<W: Write> Write for Logged<W> {
 
     fn write(&mut self, buf: &[u8]) -> io::Result<usize>
         ensures bound { WritesAtMost result buf.now }
-        ensures bytes { WriteAppends (⟦<Logged<W> as Write>⟧.contents self.old) (⟦<Logged<W> as Write>⟧.contents self.new) result buf.now }
+        ensures bytes { WriteAppends (⟦<Logged<W> as Write>⟧.contents self.old) (⟦<Logged<W> as Write>⟧.contents self.new)
+            result buf.now }
         ensures inner { WriteAppends (W.contents self.old.to) (W.contents self.new.to) result buf.now }
     {
         match self.to.write(buf) {
@@ -49,10 +50,12 @@ impl<W: Write> Write for Logged<W> {
     }
 }
 
-/// Hands over all bytes, in as many writes as it takes. After an error not all of them were taken: a front, which may be empty.
+/// Hands over all bytes, in as many writes as it takes. After an error not all of them were taken: a front, which may
+/// be empty.
 pub fn write_whole<W: Write>(to: &mut Logged<W>, bytes: &[u8]) -> io::Result<()>
     ensures whole { OnOk result (to.new.log.written.said ≡ to.old.log.written.said ++ bytes.now) }
-    ensures front { OnErr result ((k : ℕ) × (k < length bytes.now) × (to.new.log.written.said ≡ to.old.log.written.said ++ take k bytes.now)) }
+    ensures front { OnErr result ((k : ℕ) × (k < length bytes.now)
+        × (to.new.log.written.said ≡ to.old.log.written.said ++ take k bytes.now)) }
 {
     let mut done = 0;
     'writes: for _ in 0..u64::MAX {

@@ -1,5 +1,5 @@
-// A file is written whole beside its place, as a part, and then moved there. So what is at the place is whole at any time, and a link
-// or a FIFO there is replaced, and never written to.
+// A file is written whole beside its place, as a part, and then moved there. So what is at the place is whole at any
+// time, and a link or a FIFO there is replaced, and never written to.
 ghost use Rattle.std.specs.Prelude.{◌≡◌, ◌∷◌, [], ◌++◌, IfOk, OnOk, OnErr};
 
 use crate::logged::{Logged, write_whole};
@@ -26,7 +26,8 @@ pub fn make_out<R: Files>(rt: &R) -> io::Result<()> {
     Err(io::Error::from(ErrorKind::NotADirectory))
 }
 
-// A name that no other run gives, also if it has the number of this process on another machine; no file of a target begins with a dot.
+// A name that no other run gives, also if it has the number of this process on another machine; no file of a target
+// begins with a dot.
 fn part_path<R: AllocGlobal + Clock>(rt: &R, process: u32) -> io::Result<String> {
     let time = rt.since_1970()?;
     let (seconds, nanos) = (time.as_secs(), time.subsec_nanos());
@@ -34,7 +35,8 @@ fn part_path<R: AllocGlobal + Clock>(rt: &R, process: u32) -> io::Result<String>
     Ok(path)
 }
 
-// Hands all bytes to a new file, and from there to the disk: an error that the system would tell at the close shows here.
+// Hands all bytes to a new file, and from there to the disk: an error that the system would tell at the close shows
+// here.
 fn fill<F: Write + OpenFile + Drop>(file: F, bytes: &[u8]) -> io::Result<WriteLog>
     ensures { IfOk result (λ log. log.written.said ≡ bytes.now) }
 {
@@ -69,7 +71,8 @@ fn move_to<R: Files + AllocGlobal>(rt: &R, from: &str, name: &str) -> io::Result
     fs::rename(rt, from, path.as_str())
 }
 
-/// Moves a part that has these bytes to the place of the file of this name, and logs that it was put. If it fails, the part is removed.
+/// Moves a part that has these bytes to the place of the file of this name, and logs that it was put. If it fails, the
+/// part is removed.
 pub fn publish<R: Files + AllocGlobal>(
     rt: &R,
     part: &Part,
@@ -93,8 +96,9 @@ pub fn publish<R: Files + AllocGlobal>(
     }
 }
 
-// Whether a file of this name is the part of a run that has ended: its process is this one, which has begun none, or is gone. Where the
-// processes can't be seen, each is taken for gone; a run whose part is taken away fails at the move, and nothing is mixed.
+// Whether a file of this name is the part of a run that has ended: its process is this one, which has begun none, or is
+// gone. Where the processes can't be seen, each is taken for gone; a run whose part is taken away fails at the move,
+// and nothing is mixed.
 fn is_left_over<R: Files + AllocGlobal>(rt: &R, process: u32, name: &str) -> io::Result<bool> {
     let Some(rest) = name.strip_prefix(".clio-") else {
         return Ok(false);
