@@ -24,4 +24,4 @@ exits list tests words old new before after writes writes' status is are (e, tol
 -- without memory for the lists
 pub without_memory : (words : List Word) (told : InputState) (written : OutputState) (writes status : ℕ) → status ≡ status_of Memory
     → IsExit words status told told written written writes writes
-without_memory words told written writes status is = (Memory, is, inl (refl, refl, refl))
+without_memory words told written writes status is = (Memory, is, inl (refl, (refl, refl, refl)))

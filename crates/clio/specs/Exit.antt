@@ -13,9 +13,14 @@ use Rattle.clio_top.specs.Words.{Word}
 abbrev pub shipped : Program
 shipped = program shipped_conversions shipped_row_tests shipped_apply shipped_passes
 
--- It is the status of an ending that is right for these words, for what the reads answered and for what the writes took; or memory ran
--- out before anything was read or written.
+-- nothing was read or written, and no write failed
+abbrev pub NothingCame : InputState → InputState → OutputState → OutputState → ℕ → ℕ → Type 0
+NothingCame old new before after writes writes' = (new ≡ old) × (after ≡ before) × (writes' ≡ writes)
+
+-- It is the status of an ending that is right for these words, for what the reads answered and for what the writes
+-- took; or memory ran out before anything was read or written.
 abbrev pub IsExit : List Word → ℕ → InputState → InputState → OutputState → OutputState → ℕ → ℕ → Type 0
 IsExit words status old new before after writes writes' =
     (e : Ending) × (status ≡ status_of e)
-    × (((e ≡ Memory) × (new ≡ old) × (after ≡ before)) ⊎ IsRight shipped words e old new before after writes writes')
+    × (((e ≡ Memory) × NothingCame old new before after writes writes')
+    ⊎ IsRight shipped words e old new before after writes writes')

@@ -1,8 +1,9 @@
 //! The program: it reads `./NAME`, writes `./out/NAME`, and says to standard output.
 //!
-//! `main` gives the top call `run` of `clio_top` the words of the command line, the working folder (`clio_folder`), and the shipped
-//! conversions and row tests, says the message of an ending that is not `Done` to standard error, and ends with its status (specs/Exit).
-//! If there is no memory for the words, the conversions or the row tests, nothing is printed, and the status is 9.
+//! `main` gives the top call `run` of `clio_top` the words of the command line, the working folder (`clio_folder`),
+//! and the shipped conversions and row tests, says the message of an ending that is not `Done` to standard error, and
+//! ends with its status (specs/Exit). If there is no memory for the words, the conversions or the row tests, nothing
+//! is printed, and the status is 9.
 #![tactic(auto)]
 
 ghost use Rattle.std.specs.Prelude.{◌≡◌, [], IfOk, length, map};
@@ -33,8 +34,9 @@ use std::process::ExitCode;
 use std::rt::Env;
 use std::{env, io, process};
 
-// So many bytes are taken at first, and given back. The C library maps a block afresh if it is greater than each that it
-// mapped before and got back; all others come from the memory that it has. So what is given back later is used again.
+// So many bytes are taken at first, and given back. The C library maps a block afresh if it is greater than each that
+// it mapped before and got back; all others come from the memory that it has. So what is given back later is used
+// again.
 const FIRST_BLOCK: usize = 24 << 20;
 
 // A block of so many bytes, of which none is used.
@@ -121,7 +123,8 @@ fn passes(code: u32, text: &Text) -> Result<bool, AllocError>
     check_row(code, text)
 }
 
-// A run of these words with the shipped conversions and row tests, over what is read from and written to, and its status.
+// A run of these words with the shipped conversions and row tests, over what is read from and written to, and its
+// status.
 fn run_shipped<I: Inputs, O: Outputs>(
     rt: &(impl Eprint + AllocGlobal),
     words: &Vec<Text>,

@@ -8,7 +8,7 @@ use Rattle.dx_model.specs.declared.facts.Fact.{Fact}
 use Rattle.dx_model.specs.Rules.{AreRows}
 use Rattle.dx_model.specs.Solutions.{IsSolution}
 use Rattle.dx_stages.specs.Worlds.{World}
-use Rattle.dx_stages.specs.Ending.{WroteAll, WroteFirst}
+use Rattle.dx_stages.specs.Ending.{WroteAll, WroteFirst, WroteLess}
 use Rattle.dx_stages.specs.Stages.{each}
 use Rattle.dx_schema.specs.Forest.{Forest}
 use Rattle.dx_schema.specs.Tables.{model_tables}
@@ -38,6 +38,10 @@ wrote_all before after files text = WroteAll files text before after
 -- so many files, the first ones, and after all of them a part of the text
 abbrev pub wrote_first : ℕ → OutputState → OutputState → List Entry → List ℕ → Type 0
 wrote_first count before after files text = WroteFirst files text count before after
+
+-- the same, and of the text not all
+abbrev pub wrote_less : ℕ → OutputState → OutputState → List Entry → List ℕ → Type 0
+wrote_less count before after files text = WroteLess files text count before after
 
 -- ---- an exchange
 

@@ -17,7 +17,7 @@ use Rattle.dx_exchange.specs.declared.result.Exchange.{Exchange}
 use Rattle.dx_exchange.specs.declared.fault.ExFault.TheVariants as exchange_faults
 use Rattle.dx_stages.specs.declared.plan.Ended.{Ended}
 use Rattle.dx_stages.specs.declared.plan.Ended.TheVariants as endeds
-use Rattle.dx_stages.specs.Ending.{Counts, Ends, IsOutside, IsRefusedAs, PlanContent, Runs}
+use Rattle.dx_stages.specs.Ending.{Counts, Ends, IsOutside, IsRefusedAs, PlanContent, RunsIn}
 use Rattle.dx_stages.specs.Worlds.{World}
 use Rattle.clio_accept.proofs.Accepted.{accepted_fits}
 use Rattle.clio_ending.specs.declared.ending.Done.{Done}
@@ -120,14 +120,14 @@ abbrev CalmReads : Program → World → List (List ℕ) → InputState → Inpu
 CalmReads P c words old new = (n : List ℕ) → (run_stages P).asks c words n → ¬ (Rose old.faults new.faults)
 
 -- with a plan it is done, or memory ran out
-plan_done : (P : Program) (words : List (List ℕ)) (e : Ended Done Refusal) (old new : InputState) (before after : OutputState) (writes writes' : ℕ)
-    → (runs : Runs AreAlike (run_stages P) words e old new before after writes writes') → CalmReads P runs.world words old new → ¬ (Rose writes writes')
-    → (p : PlanContent Done) → (run_stages P).passes runs.world words p
-    → ((q : PlanContent Done) × (run_stages P).passes runs.world words q × (e ≡ endeds.Done q.done)) ⊎ (e ≡ endeds.Memory)
-plan_done P words e old new before after writes writes' runs reads written p passed = of e runs.ends runs.counts (runs.complete p passed)
+plan_done : (P : Program) (c : World) (words : List (List ℕ)) (e : Ended Done Refusal) (old new : InputState) (before after : OutputState) (writes writes' : ℕ)
+    → RunsIn AreAlike (run_stages P) c words e before after → Counts old new writes writes' e → CalmReads P c words old new → ¬ (Rose writes writes')
+    → (p : PlanContent Done) → (run_stages P).passes c words p
+    → ((q : PlanContent Done) × (run_stages P).passes c words q × (e ≡ endeds.Done q.done)) ⊎ (e ≡ endeds.Memory)
+plan_done P c words e old new before after writes writes' right counted reads written p passed = of e right.ends counted (right.complete p passed)
   where
-    of : (e : Ended Done Refusal) → Ends (run_stages P) runs.world words before after e → Counts old new writes writes' e → ((r : Refusal) → ¬ (e ≡ endeds.Refused r))
-        → ((q : PlanContent Done) × (run_stages P).passes runs.world words q × (e ≡ endeds.Done q.done)) ⊎ (e ≡ endeds.Memory)
+    of : (e : Ended Done Refusal) → Ends (run_stages P) c words before after e → Counts old new writes writes' e → ((r : Refusal) → ¬ (e ≡ endeds.Refused r))
+        → ((q : PlanContent Done) × (run_stages P).passes c words q × (e ≡ endeds.Done q.done)) ⊎ (e ≡ endeds.Memory)
     of (endeds.Done d) (q, h, is, wrote) counts never = inl (q, h, ap (λ x. endeds.Done x) (sym is))
     of (endeds.Refused r) ends counts never = absurd (never r refl)
     of (endeds.ReadFault n) ends counts never = absurd (reads n ends.0 counts.0)
@@ -135,12 +135,12 @@ plan_done P words e old new before after writes writes' runs reads written p pas
     of endeds.Memory ends counts never = inr refl
 
 -- with a reason to refuse it is refused so, or memory ran out
-reason_told : (P : Program) (words : List (List ℕ)) (e : Ended Done Refusal) (old new : InputState) (before after : OutputState) (writes writes' : ℕ)
-    → (runs : Runs AreAlike (run_stages P) words e old new before after writes writes') → CalmReads P runs.world words old new
-    → (r : Refusal) → (run_stages P).refuses runs.world words r → IsRefusedAs AreAlike r e ⊎ (e ≡ endeds.Memory)
-reason_told P words e old new before after writes writes' runs reads r refused = of e runs.ends runs.counts (runs.exact r refused)
+reason_told : (P : Program) (c : World) (words : List (List ℕ)) (e : Ended Done Refusal) (old new : InputState) (before after : OutputState) (writes writes' : ℕ)
+    → RunsIn AreAlike (run_stages P) c words e before after → Counts old new writes writes' e → CalmReads P c words old new
+    → (r : Refusal) → (run_stages P).refuses c words r → IsRefusedAs AreAlike r e ⊎ (e ≡ endeds.Memory)
+reason_told P c words e old new before after writes writes' right counted reads r refused = of e right.ends counted (right.exact r refused)
   where
-    of : (e : Ended Done Refusal) → Ends (run_stages P) runs.world words before after e → Counts old new writes writes' e → IsRefusedAs AreAlike r e ⊎ IsOutside e
+    of : (e : Ended Done Refusal) → Ends (run_stages P) c words before after e → Counts old new writes writes' e → IsRefusedAs AreAlike r e ⊎ IsOutside e
         → IsRefusedAs AreAlike r e ⊎ (e ≡ endeds.Memory)
     of e ends counts (inl h) = inl h
     of (endeds.Done d) ends counts (inr h) = absurd h
@@ -190,33 +190,33 @@ clash_answered r e k table key column is (inl (f, e_is, alike)) =
     inl (h.0, h.1, h.2, h.3, is ∙ ap ending_of (e_is ∙ ap (λ x. endeds.Refused x) h.4))
 clash_answered r e k table key column is (inr none) = inr (is ∙ ap ending_of none)
 
--- ---- in the world of a run
+-- ---- in a world of a run
 
-pub completes : (P : Program) (words : List (List ℕ)) (r : Ending) (e : Ended Done Refusal) (old new : InputState) (before after : OutputState) (writes writes' : ℕ)
-    → r ≡ ending_of e → (runs : Runs AreAlike (run_stages P) words e old new before after writes writes')
-    → ¬ (Rose old.faults new.faults) → ¬ (Rose writes writes') → Completes P runs.world words r
-completes P words r e old new before after writes writes' is runs reads written = record {
+pub completes : (P : Program) (c : World) (words : List (List ℕ)) (r : Ending) (e : Ended Done Refusal) (old new : InputState) (before after : OutputState) (writes writes' : ℕ)
+    → r ≡ ending_of e → RunsIn AreAlike (run_stages P) c words e before after → Counts old new writes writes' e
+    → ¬ (Rose old.faults new.faults) → ¬ (Rose writes writes') → Completes P c words r
+completes P c words r e old new before after writes writes' is right counted reads written = record {
   done = λ k w h.
-      let p = faultless_planned P runs.world words h in
-      answered P runs.world words r e k is w (plan_done P words e old new before after writes writes' runs (λ n a. reads) written p.0 p.1);
-  refused = λ f h. refusal_answered r e f is (reason_told P words e old new before after writes writes' runs (λ n a. reads) f h);
+      let p = faultless_planned P c words h in
+      answered P c words r e k is w (plan_done P c words e old new before after writes writes' right counted (λ n a. reads) written p.0 p.1);
+  refused = λ f h. refusal_answered r e f is (reason_told P c words e old new before after writes writes' right counted (λ n a. reads) f h);
   exchanged = λ mode nested w h.
-      let p = planned P runs.world words mode nested w h in
-      exchange_answered r mode nested (answered P runs.world words r e (Exchanging mode nested) is w
-      (plan_done P words e old new before after writes writes' runs (λ n a. reads) written p.1.0 p.1.1));
+      let p = planned P c words mode nested w h in
+      exchange_answered r mode nested (answered P c words r e (Exchanging mode nested) is w
+      (plan_done P c words e old new before after writes writes' right counted (λ n a. reads) written p.1.0 p.1.1));
   clash = λ mode nested w h.
-      let k = no_solution P runs.world words mode nested w h in
-      clash_answered r e k.0 k.1 k.2 k.3 is (reason_told P words e old new before after writes writes' runs (λ n a. reads) (refusals.Clash k.0 k.1 k.2 k.3) k.4);
+      let k = no_solution P c words mode nested w h in
+      clash_answered r e k.0 k.1 k.2 k.3 is (reason_told P c words e old new before after writes writes' right counted (λ n a. reads) (refusals.Clash k.0 k.1 k.2 k.3) k.4);
   shown = λ mode w h.
-      let p = shown P runs.world words mode w h in
-      shown_answered r mode (answered P runs.world words r e (Showing mode) is w
-      (plan_done P words e old new before after writes writes' runs (λ n a. reads) written p.0 p.1));
+      let p = shown P c words mode w h in
+      shown_answered r mode (answered P c words r e (Showing mode) is w
+      (plan_done P c words e old new before after writes writes' right counted (λ n a. reads) written p.0 p.1));
   answers = λ w h k few.
-      let p = answers_planned P runs.world words w h k few in
-      answers_answered r (answered P runs.world words r e Answering is w (plan_done P words e old new before after writes writes' runs (λ n a. reads) written p.1.0 p.1.1));
+      let p = answers_planned P c words w h k few in
+      answers_answered r (answered P c words r e Answering is w (plan_done P c words e old new before after writes writes' right counted (λ n a. reads) written p.1.0 p.1.1));
   no_answer = λ w h q.
-      let k = answers_clash P runs.world words w h q in
-      clash_answered r e k.0 k.1 k.2 k.3 is (reason_told P words e old new before after writes writes' runs (λ n a. reads) (refusals.Clash k.0 k.1 k.2 k.3) k.4);
+      let k = answers_clash P c words w h q in
+      clash_answered r e k.0 k.1 k.2 k.3 is (reason_told P c words e old new before after writes writes' right counted (λ n a. reads) (refusals.Clash k.0 k.1 k.2 k.3) k.4);
 }
 
 -- ---- over the files of a demo
@@ -228,15 +228,15 @@ asks_none P c words number mode n w a =
     let k = (in_order P c words n).0 a in
     subst (λ (v : Command). AsksFor P c v n) (sym (same_Some (Demonstrating number mode) k.0 (sym w ∙ k.1))) k.2
 
-pub completes_demo : (P : Program) (words : List (List ℕ)) (r : Ending) (e : Ended Done Refusal) (old new : InputState) (before after : OutputState) (writes writes' : ℕ)
-    → r ≡ ending_of e → Runs AreAlike (run_stages P) words e old new before after writes writes' → ¬ (Rose writes writes') → CompletesDemo P words r
-completes_demo P words r e old new before after writes writes' is runs written = record {
+pub completes_demo : (P : Program) (c : World) (words : List (List ℕ)) (r : Ending) (e : Ended Done Refusal) (old new : InputState) (before after : OutputState) (writes writes' : ℕ)
+    → r ≡ ending_of e → RunsIn AreAlike (run_stages P) c words e before after → Counts old new writes writes' e → ¬ (Rose writes writes') → CompletesDemo P words r
+completes_demo P c words r e old new before after writes writes' is right counted written = record {
   demo = λ number mode w h.
-      let p = demo_planned P runs.world words number mode w h in
-      demo_answered r number mode (answered P runs.world words r e (Demonstrating number mode) is w
-      (plan_done P words e old new before after writes writes' runs (λ n a. absurd (asks_none P runs.world words number mode n w a)) written p.1.0 p.1.1));
+      let p = demo_planned P c words number mode w h in
+      demo_answered r number mode (answered P c words r e (Demonstrating number mode) is w
+      (plan_done P c words e old new before after writes writes' right counted (λ n a. absurd (asks_none P c words number mode n w a)) written p.1.0 p.1.1));
   clash = λ number mode w h.
-      let k = demo_clashes P runs.world words number mode w h in
+      let k = demo_clashes P c words number mode w h in
       clash_answered r e k.0 k.1 k.2 k.3 is
-      (reason_told P words e old new before after writes writes' runs (λ n a. absurd (asks_none P runs.world words number mode n w a)) (refusals.Clash k.0 k.1 k.2 k.3) k.4);
+      (reason_told P c words e old new before after writes writes' right counted (λ n a. absurd (asks_none P c words number mode n w a)) (refusals.Clash k.0 k.1 k.2 k.3) k.4);
 }

@@ -11,7 +11,7 @@ use Rattle.dx_schema.specs.Forest.{Forest}
 use Rattle.dx_schema.specs.Tables.{TableOf, schema_table, tables_of, no_table}
 use Rattle.dx_stages.specs.declared.stop.Stop.{Stop}
 use Rattle.dx_stages.specs.declared.stop.Stop.TheVariants as stops
-use Rattle.dx_stages.specs.Worlds.{Agrees, HoldsFound, World}
+use Rattle.dx_stages.specs.Worlds.{Agrees, HoldsFound, IsSeen, World}
 use Rattle.dx_stages.specs.Stages.{Stage}
 use Rattle.dx_stages.specs.Running.{FailedAt, Gives, Meets, Ran}
 use Rattle.dx_stages.specs.Ending.{PlanContent}
@@ -27,7 +27,8 @@ use Rattle.clio_top.specs.Demo.{IsDemoPlan, count_line, counts_text, demo_file_m
 -- what was told of a world is so there
 agrees : (w : World) (m : FileMap) (found : List Found) → ((n : List ℕ) → w n ≡ get m n) → HoldsFound (Some m) found → Agrees w found
 agrees w m [] same told = tt
-agrees w m (f ∷ fs) same told = (same f.name ∙ told.0, agrees w m fs same told.1)
+agrees w m (f ∷ fs) same told =
+    (subst (λ (o : Option (List ℕ)). IsSeen o f.sight) (sym (same f.name)) told.0, agrees w m fs same told.1)
 
 -- over inputs that hold a world and count no faults a stage gives what it gives in that world
 pub gives_inside : {E A B : Type 0} (s : Stage E A B) (w : World) (m : FileMap) (a : A) (r : Result B (Stop E)) (old new : InputState)

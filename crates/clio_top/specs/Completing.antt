@@ -95,7 +95,7 @@ HasDone Comparing d = (k : Comparison) × (d ≡ Compared k)
 abbrev pub HasNoFault : Program → World → List Word → Type 0
 HasNoFault P c words = (e : Refusal) → ¬ ((run_stages P).refuses c words e)
 
--- In a world in which what the reads answered is so, if no read and no write failed: if nothing is at fault, the command of the words is done; if there is a
+-- In a world of a run, if no read and no write failed: if nothing is at fault, the command of the words is done; if there is a
 -- reason to refuse, it is the answer, or one that is alike; and what these come to for an exchange, for showing and for an answer.
 pub record Completes (P : Program) (c : World) (words : List Word) (r : Ending) : Type 0 where
   pub done : (k : Command) → says words ≡ Some k → HasNoFault P c words → OrMemory r ((d : Done) × HasDone k d × (r ≡ endings.Done d))

@@ -6,7 +6,7 @@ use Rattle.clio_ending.specs.declared.ending.Done.{Done}
 use Rattle.clio_ending.specs.declared.ending.Ending.{Ending}
 use Rattle.clio_ending.specs.declared.ending.Ending.TheVariants as endings
 use Rattle.clio_steps.specs.Steps.{Program}
-use Rattle.clio_steps.specs.Outcomes.{wrote_first}
+use Rattle.clio_steps.specs.Outcomes.{wrote_first, wrote_less}
 use Rattle.clio_top.specs.Words.{Word}
 use Rattle.clio_top.specs.Promises.{AsAsked}
 
@@ -14,12 +14,18 @@ use Rattle.clio_top.specs.Promises.{AsAsked}
 abbrev pub WroteFirstAsked : Program → World → List Word → ℕ → OutputState → OutputState → Type 0
 WroteFirstAsked P c words count before after = (d : Done) × AsAsked P c words d (wrote_first count before after)
 
--- An ending with `WriteFault` tells how many files were put, the first ones; with `Memory` nothing was written, or the same; with each
--- other one that is not `Done` nothing. What is left after `Done` the clauses of `run` on each of them say.
+-- the same, and of the text not all was said
+abbrev pub WroteLessAsked : Program → World → List Word → ℕ → OutputState → OutputState → Type 0
+WroteLessAsked P c words count before after = (d : Done) × AsAsked P c words d (wrote_less count before after)
+
+-- An ending with `WriteFault` tells how many files were put, the first ones; with `Memory` nothing was written, or
+-- the same, and not all of the text; with each other one that is not `Done` nothing. What is left after `Done` says
+-- the field `done` of specs/Right.
 abbrev pub Leaves : Program → World → List Word → OutputState → OutputState → Ending → Type 0
 Leaves P c words before after (endings.Done done) = Unit {0}
 Leaves P c words before after (endings.WriteFault files) = WroteFirstAsked P c words files before after
-Leaves P c words before after endings.Memory = (after ≡ before) ⊎ ((count : ℕ) × WroteFirstAsked P c words count before after)
+Leaves P c words before after endings.Memory =
+    (after ≡ before) ⊎ ((count : ℕ) × WroteLessAsked P c words count before after)
 Leaves P c words before after endings.Usage = after ≡ before
 Leaves P c words before after (endings.Clash k table key column) = after ≡ before
 Leaves P c words before after (endings.Mapping fault) = after ≡ before

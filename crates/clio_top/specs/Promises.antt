@@ -1,5 +1,5 @@
--- What a run that is done comes to, an exchange above all, and what a clash does: the sentence at the top of docs/ASSURANCE.md, of a run. And laws
--- of its stages.
+-- What a run that is done comes to, an exchange above all, and what a clash does: the sentence at the top of
+-- docs/ASSURANCE.md, of a run. And laws of its stages.
 use Rattle.std.specs.Prelude.{◌≡◌, ◌⊎◌, ◌↔◌, ℕ, List, codes, map, Some, None, Bool}
 use Rattle.dx_base.specs.Members.{Distinct}
 use Rattle.dx_base.specs.Texts.{Text}
@@ -100,8 +100,8 @@ IsClashOf P c words k table key column =
     × IsClashIn P mode (demo_world number) k table key column)
     ⊎ ((says words ≡ Some Answering) × IsClashIn P Plain c k table key column))
 
--- a clash is that of an accepted mapping text and the source of some files, or of a demo's files, in the mode that the words say,
--- whether or not the inputs tell what they hold
+-- a clash is that of an accepted mapping text and the source of some files, or of a demo's files, in the mode that
+-- the words say, whether or not the inputs tell what they hold
 abbrev pub ClashesAreOfTexts : Type 0
 ClashesAreOfTexts =
     (P : Program) (c : World) (words : List Word) (before after : OutputState) (k : Clash) (table : Text) (key : List Text) (column : Text)
@@ -117,10 +117,11 @@ NoSolutionIsAClash =
 
 -- ---- files
 
--- The files that a command asks for. An exchange: the mapping text and then, if it is accepted, the source files in order. Showing: the
--- mapping text. A demo: none. An answer: the mapping text, then if it is accepted the query, and then, if that is over its target, the
--- source files in order. Judging: the mapping text, then if it is accepted the source files in order, and then, if these are in form,
--- the given files in order. Comparing: the mapping text and then, if it is accepted, the other one.
+-- The files that a command asks for. An exchange: the mapping text and then, if it is accepted, the source files in
+-- order. Showing: the mapping text. A demo: none. An answer: the mapping text, then if it is accepted the query, and
+-- then, if that is over its target, the source files in order. Judging: the mapping text, then if it is accepted the
+-- source files in order, and then, if these are in form, the given files in order. Comparing: the mapping text and
+-- then, if it is accepted, the other one.
 abbrev pub AsksFor : Program → World → Command → List ℕ → Type 0
 AsksFor P c (Exchanging mode nested) n =
     (n ≡ codes "mapping.clio") ⊎ ((M : Mapping) × (mapping_stages P).passes c (tt {0}) M × IsNextFile c M.source n)

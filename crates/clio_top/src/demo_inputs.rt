@@ -27,6 +27,7 @@ impl Inputs for DemoInputs {
             return Err(FetchFault::Absent);
         };
         if bytes.len() as u64 > limit {
+            self.log.longer(name.bytes(), &[limit]);
             return Err(FetchFault::Long);
         }
         into.extend_from_slice(bytes)?;

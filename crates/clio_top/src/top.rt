@@ -74,16 +74,17 @@ where
     }
 }
 
-/// Runs the command that the words say. `exchange` reads `mapping.clio` and the files of the source, puts those of the target and
-/// says the summary; `show` says rules and script; `demo` exchanges files that it makes, and says counts; `answer` also reads
-/// `query.clio`, and puts the certain answers; `judge` also reads a given target, and says the verdict; `compare` also reads
-/// `other.clio`, says whether the rules of each imply those of the other, and puts two instances for a direction that is not so.
-/// Everything is computed before the first file is put.
+/// Runs the command that the words say. `exchange` reads `mapping.clio` and the files of the source, puts those of
+/// the target and says the summary; `show` says rules and script; `demo` exchanges files that it makes, and says
+/// counts; `answer` also reads `query.clio`, and puts the certain answers; `judge` also reads a given target, and
+/// says the verdict; `compare` also reads `other.clio`, says whether the rules of each imply those of the other, and
+/// puts two instances for a direction that is not so. Everything is computed before the first file is put.
 ///
-/// There is one world, a look-up from names to bytes, in which all that the reads of this run have answered is so, and which is what the
-/// inputs hold if they tell. All that is promised is so in it (specs/Right): what is done is as the words ask for it, after `Clash` there
-/// is no solution, what is left after any ending, and that what can be done is done, if no call outside failed and memory suffices. In
-/// general the stages of the words (`run_stages`) give this ending there, and what was written is what they allow.
+/// A world is a look-up from names to bytes. There is one in which all is so that the reads of this run have
+/// answered, and which is what the inputs hold if they tell; and in each such world all that is promised is so
+/// (specs/Right): what is done is as the words ask for it, after `Clash` there is no solution, what is left after any
+/// ending, and that what can be done is done, if no call outside failed and memory suffices. In general the stages of
+/// the words (`run_stages`) give this ending there, and what was written is what they allow.
 pub fn run<I: Inputs, O: Outputs, F, P, M>(
     alloc: Global,
     words: &Vec<Text>,
