@@ -10,6 +10,8 @@ pub mod Headline
 pub mod KeyedExample
 pub mod KeyedRules
 pub mod Leaving
+mod NameExamples
+pub mod Names
 pub mod OneRule
 pub mod OwnNames
 pub mod Plans

@@ -4,6 +4,7 @@ pub mod Demo
 pub mod FilesOf
 pub mod KeyedWorlds
 pub mod Leaving
+pub mod Names
 pub mod Outcomes
 pub mod Promises
 pub mod Right

@@ -2,6 +2,7 @@
 ghost use Rattle.clio_top.specs.Promises.{AskedInOrder, ClashesAreOfTexts, DoneIsAsAsked, FilesHaveOwnNames};
 ghost use Rattle.clio_top.specs.Promises.{MemoryIsNoReason, NoSolutionIsAClash, ReasonsHaveWords, RefusedOrPlanned, UsageIsOfWords};
 ghost use Rattle.clio_top.specs.Completing.{AnswersArePlanned, DemoIsAClash, DemoIsPlanned, MappingIsShown, NoAnswerIsAClash, SmallIsPlanned, SolutionIsPlanned};
+ghost use Rattle.clio_top.specs.Names.{PutsByName, ReadsByName};
 ghost use Rattle.clio_top.specs.FilesOf.{ExchangesCanBeWritten};
 ghost use Rattle.clio_top.specs.SmallWorld.{SmallIsWritten};
 ghost use Rattle.clio_top.specs.KeyedWorlds.{ClashIsRefused, ClashIsThis, KeyedIsPlanned, KeyedIsWritten};
@@ -77,4 +78,11 @@ pub fn exchanges_can_be_written()
 /// No two files that an exchange writes have one name.
 pub fn files_have_own_names()
     ensures { FilesHaveOwnNames }
+{}
+
+/// Each file that a run asks for has a name of a fixed form, and so has each that it puts: whatever its mapping says, none is outside the
+/// folder.
+pub fn names_are_of_the_folder()
+    ensures read { ReadsByName }
+    ensures put { PutsByName }
 {}

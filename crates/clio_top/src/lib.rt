@@ -26,7 +26,7 @@ pub use clio_source::RowsFault;
 pub use file_list::files;
 pub use laws::{
     an_exchange_is_planned, an_exchange_writes_this, clash_exactly_without_solution,
-    exchanges_can_be_written, files_have_own_names, over_anything, planned_if_there_is_something,
-    refused_or_planned, usage_is_of_words,
+    exchanges_can_be_written, files_have_own_names, names_are_of_the_folder, over_anything,
+    planned_if_there_is_something, refused_or_planned, usage_is_of_words,
 };
 pub use top::run;
