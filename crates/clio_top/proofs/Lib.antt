@@ -21,4 +21,5 @@ pub mod Reasons
 pub mod RunDecided
 pub mod TwoEmps
 pub mod Writing
+mod WordExamples
 pub mod WrittenExample
