@@ -2,3 +2,4 @@ pub mod Pairs
 pub mod ComparedIn
 pub mod Refusals
 pub mod Usage
+mod Examples
