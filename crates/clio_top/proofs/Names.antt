@@ -1,5 +1,5 @@
 -- The names of the files that a run asks for and puts.
-use Rattle.std.proofs.Common.{◌≡◌, ◌⊎◌, ◌<◌, ℕ, suc, List, [], ◌∷◌, ◌++◌, length, refl, sym, ◌∙◌, ap, subst, inl, inr, Bool, true, false, Option, Some, None, append_assoc}
+use Rattle.std.proofs.Common.{◌≡◌, ◌⊎◌, ◌<◌, ℕ, suc, List, [], ◌∷◌, ◌++◌, length, refl, sym, ◌∙◌, ap, subst, inl, inr, arith, Bool, true, false, Option, Some, None, append_assoc}
 use Rattle.std.specs.Prelude.{codes, if◌then◌else◌}
 use Rattle.dx_base.specs.Entries.{Entry}
 use Rattle.dx_base.specs.Members.{◌∈◌, here, there, Each}
@@ -24,7 +24,8 @@ use Rattle.dx_compare.specs.declared.comparing.Answer.TheVariants as answers
 use Rattle.clio_accept.specs.declared.mapping.Mapping.{Mapping}
 use Rattle.clio_accept.specs.Laws.{MappingFits}
 use Rattle.clio_accept.proofs.Accepted.{accepted_fits}
-use Rattle.clio_source.specs.Source.{RootShape, csv_name, flat, json_name, named_by, nested, roots, shape_at}
+use Rattle.clio_source.specs.Source.{RootShape, csv_name, json_name, named_by, roots, shape_at}
+use Rattle.clio_source.specs.Source as shapes
 use Rattle.clio_source.proofs.Roots.{is_root}
 use Rattle.clio_given.specs.Given.{TargetRequest, given_name}
 use Rattle.clio_files.specs.Comparisons.{AreComparedFiles, AreDirectionFiles, source_front, target_front}
@@ -40,7 +41,7 @@ use Rattle.clio_steps.proofs.InWorld.{in_world, its_mapping}
 use Rattle.clio_steps.proofs.Words.{word_bytes}
 use Rattle.clio_compare.proofs.Pairs.{made_in}
 use Rattle.clio_steps.proofs.Mappings.{is_small}
-use Rattle.clio_judge.specs.Judging.{wanted_given}
+use Rattle.clio_judge.specs.Judging.{RowsAndBytes, wanted_given}
 use Rattle.clio_judge.specs.Outcomes.{IsNextGiven}
 use Rattle.clio_top.specs.declared.command.Command.{Command}
 use Rattle.clio_top.specs.declared.command.Command.TheVariants.{Answering, Comparing, Demonstrating, Exchanging, Judging, Showing}
@@ -75,8 +76,8 @@ json_data : (word : List ℕ) → IsWord word → IsDataName (json_name word)
 json_data word h = (word, h, inr refl)
 
 root_data : (form : RootShape) (word : List ℕ) → IsWord word → IsDataName (named_by form word)
-root_data flat word h = csv_data word h
-root_data nested word h = json_data word h
+root_data shapes.flat word h = csv_data word h
+root_data shapes.nested word h = json_data word h
 
 -- ---- what is read
 
@@ -85,7 +86,8 @@ read_fits P c M (text, there, accepted) = accepted_fits P.list P.tests c text M 
 
 exchange_fits : (P : Program) (mode : Mode) (c : World) (q : Mapping × Exchange) (x : (exchanges P mode).passes c (tt {0}) q)
     → MappingFits P.list P.tests (in_world P mode c q x).mapping
-exchange_fits P mode c q (M, m, rest) = read_fits P c M m
+exchange_fits P mode c q (M, (text, there, accepted), (pair, (I, source, pair_is), (x, exchange, q_is))) =
+    accepted_fits P.list P.tests c text M (is_small text there.1) accepted
 
 member_after : {A : Type 0} (before : List A) (x : A) (after : List A) → x ∈ (before ++ x ∷ after)
 member_after [] x after = here refl
@@ -99,7 +101,9 @@ next_data f c n h x =
 
 next_given : (w : TargetRequest) (c : World) (n : List ℕ) → HaveWordNames w.schema → IsNextGiven c w n → IsGivenName n
 next_given w c n h x =
-    let within = (from_range 0 (length (tables_of w.schema)) x.table (subst (λ (ts : List ℕ). x.table ∈ ts) (sym x.tables_are) (member_after x.before x.table x.after))).1 in
+    let at = subst (λ (ts : List ℕ). x.table ∈ ts) (sym x.tables_are) (member_after x.before x.table x.after) in
+    let r = (from_range 0 (length (tables_of w.schema)) x.table at).1 in
+    let within : x.table < length (tables_of w.schema) = omega (arith, r) in
     ((schema_table w.schema x.table).name, table_word w.schema h x.table within, x.is)
 
 -- a file of data may be read
@@ -117,13 +121,13 @@ asked_by P c Answering n (inr (M, m, inr (q, over, h))) = data_read n (next_data
 asked_by P c Judging n (inl h) = inl h
 asked_by P c Judging n (inr (M, m, inl h)) = data_read n (next_data M.source c n (read_fits P c M m).source_names h)
 asked_by P c Judging n (inr (M, m, inr (p, (q, read, is), h))) =
-    let same : M ≡ p.0.0 = sym (ap (λ r. r.0.0) is) in
+    let same : M ≡ p.0.0 = sym (ap (λ (r : RowsAndBytes). r.0.0) is) in
     inr (inr (inr (inr (next_given (wanted_given p) c n (subst (λ (N : Mapping). HaveWordNames N.target) same (read_fits P c M m).target_names) h))))
 asked_by P c Comparing n (inl h) = inl h
 asked_by P c Comparing n (inr (M, m, h)) = inr (inr (inl h))
 
 pub reads_by_name : ReadsByName
-reads_by_name P c words n h = let a = (in_order P c words n).0 h in asked_by P c a.0 n a.2.1
+reads_by_name P c words n h = let a = (in_order P c words n).0 h in asked_by P c a.0 n a.2
 
 -- ---- what is put
 
