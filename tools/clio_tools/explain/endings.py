@@ -5,7 +5,7 @@ import signal
 
 from clio_tools.mapping.tables import tables_of
 
-from clio_tools.explain import clashes, document_faults, given_faults, mapping_faults, other_faults, query_faults, sizes, system_faults, table_faults, traps, verdicts
+from clio_tools.explain import clashes, document_faults, drawing_notes, given_faults, mapping_faults, other_faults, query_faults, sizes, system_faults, table_faults, traps, verdicts
 from clio_tools.explain.placed import MappingText
 from clio_tools.explain.said import visible
 from clio_tools.explain.source import file_of
@@ -69,19 +69,21 @@ def explained(status, message, words):
         yield f"clio was ended by the signal {signal.Signals(-status).name}" + (
             ": the stack ran out" if -status == signal.SIGSEGV else ": memory may have run out" if -status == signal.SIGKILL else "")
     elif status == 0 and words[0] in ("show", "exchange") and content is not None:
-        yield from traps.explain(words, content)
+        yield from drawing_notes.after_warnings(traps.explain(words, content), content)
     elif status == 0 and words == ["judge"] and content is not None:
         yield from verdicts.explain(content)
     elif status == 2:
         yield from usage(words, message)
     elif status == 3 and content is not None:
         yield from clashes.explain(message, content)
+        yield from drawing_notes.after_clash(message, content)
     elif status == 4:
         yield from mapping_faults.explain(message, content)
     elif status == 5:
         yield from rows(message)
     elif status == 6:
         yield from sizes.explain(message, content, words)
+        yield from drawing_notes.after_limit(message, content)
     elif status == 7:
         yield from system_faults.reading(message.removeprefix("read fault: "))
     elif status == 8:

@@ -1,8 +1,8 @@
 """`--propose`: a whole drawing of a mapping by lines. What is open is a comment, with the choices."""
-from typing import Iterator
+from typing import Iterator, Optional
 
 from ..mapping import tree
-from ..mapping.printing import printed_argument
+from ..mapping.printing import printed_argument, printed_line, quoted
 from ..mapping.schema import Table
 from .model import Drawing
 from .ways import Way, spelled
@@ -62,14 +62,35 @@ class Proposing:
                       if not any(len(one) > len(way) and one[:len(way)] == way for one in ways))
 
     def choices(self, line: tree.Line) -> Iterator[str]:
-        """What is open in a line: the ways that each of its columns could come by."""
-        table = next(one for one in self.drawing.targets if one.name == line.target.set.text)
+        """What is open in a line, as comments: the ways that a column could come by, the sets that a text could be
+        for."""
+        starts = self.starts[self.drawing.target_number(line.target.set.text)]
+        if line.literal and line.source is None and len(starts) > 1:
+            yield f"// choose for {quoted(line.literal.text)}: {' or '.join('from ' + name for name in starts)}"
         for one in line.arguments:
-            for name in self.starts[table.number]:
+            for name in starts:
                 ways = [] if one.by else self.walks(name, one.set.text)
                 if len(ways) > 1:
-                    listed = " or ".join("by " + spelled(way) for way in ways[:6])
-                    yield f"// choose for {printed_argument(one)} of each {name}: {listed}"
+                    yield f"// choose for {printed_argument(one)} of each {name}: {_either(ways)}"
+
+    def chosen(self, line: tree.Line) -> Optional[str]:
+        """A line with the first of its choices, and the others as a comment; None if nothing is open in it."""
+        starts = self.starts[self.drawing.target_number(line.target.set.text)]
+        plain = printed_line(line).removesuffix(";")
+        if line.literal and line.source is None and len(starts) > 1:
+            return f"{plain} from {starts[0]};  // or {' or '.join('from ' + name for name in starts[1:])}"
+        if len(line.arguments) != 1 or line.arguments[0].by or line.conversion:
+            return next(self.choices(line), None)
+        for name in starts:
+            ways = self.walks(name, line.arguments[0].set.text)
+            if len(ways) > 1:
+                return f"{plain} by {spelled(ways[0])};  // or {_either(ways[1:])}"
+        return None
+
+
+def _either(ways: list[Way]) -> str:
+    """Ways to choose from."""
+    return " or ".join("by " + spelled(way) for way in ways[:6]) + (" or another" if len(ways) > 6 else "")
 
 
 def proposed(drawing: Drawing) -> str:
