@@ -14,6 +14,10 @@ to itself, or one that closes a circle; a table with more than 64 columns; a col
 OPTIONS
 `--side target` prints the target, of which no data is read; `--side source` is the default.
 
+`--drawing` prints the side for a drawing (man clio-rules): refs in a circle are kept, and those of the target that may be NULL are optional, which
+takes `mapping 2;` on top. With `--side target --lines-from FILE`, where FILE has the source that clio-draft printed, `rows` and `line`s are proposed
+as comments: for sets and columns of the same names, and by each way that there is.
+
 `--data FOLDER` writes the source's files into the folder, as clio reads them: NULL as the empty text, numbers as their digits. Remarks
 on standard error say what a reader should know: NULL beside empty texts in a column, rows that a ref doesn't match, a limit that is passed.
 
@@ -42,6 +46,7 @@ from clio_tools.program import Refused, remark, run
 from clio_tools.draft.data import Written
 from clio_tools.draft.model import Side, find_set
 from clio_tools.draft.names import shown
+from clio_tools.draft.proposals import proposals
 from clio_tools.draft.text import side_text
 from clio_tools.mapping.text import read_sets
 
@@ -58,11 +63,15 @@ def words_of(words):
         if kind == "csv":
             one.add_argument("--delimiter", default=",", metavar="SIGN")
         one.add_argument("--side", choices=["source", "target"], default="source")
+        one.add_argument("--drawing", action="store_true", help="print the side for a drawing, with refs in a circle")
+        one.add_argument("--lines-from", metavar="FILE", help="print lines from the source in this file, as comments")
         one.add_argument("--data", metavar="FOLDER", help="write the files that the source reads into this folder")
         one.add_argument("--mapping", metavar="FILE", help="write them for the sets of this mapping text, and print nothing")
     given = parser.parse_args(words)
     if given.side == "target" and given.data:
         parser.error("--data is for the source: of the target no data is read")
+    if given.lines_from and (given.side != "target" or not given.drawing):
+        parser.error("--lines-from is for the target of a drawing: --side target --drawing")
     if given.mapping and not given.data:
         parser.error("--mapping needs --data")
     return given
@@ -116,7 +125,7 @@ def write_data(base, wanted, written):
 def work(words):
     given = words_of(words)
     base, sources = opened(given)
-    side = Side(given.side, base.tables())
+    side = Side(given.side, base.tables(), given.drawing)
     if given.data:
         written = Written(given.data, sources, lambda text: remark("clio-draft", text))
         wanted = wanted_sets(side, given.mapping)
@@ -124,9 +133,11 @@ def work(words):
         written.check_limits()
         if not given.mapping:
             for table, _ in wanted:
-                written.check_refs(table)
+                written.check_refs(table, given.drawing)
     if not given.mapping:
         print(side_text(side), end="")
+    if given.lines_from:
+        print(proposals(pathlib.Path(given.lines_from).read_bytes(), side), end="")
 
 
 def main():

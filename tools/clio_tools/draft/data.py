@@ -70,7 +70,7 @@ class Written:
             if count > most:
                 self.remark(f"the files have {count} {what}, and clio takes at most {most}: split them, or run the script on your own engine")
 
-    def check_refs(self, table):
+    def check_refs(self, table, drawing=False):
         """Says how many rows of a table have no match along each ref."""
         for ref in table.refs:
             own, referred = ref.words(table)
@@ -78,7 +78,8 @@ class Written:
             missing = sum(1 for row in tuples(self.folder, table, own) if row not in there)
             if missing:
                 rows, them = ("1 row has", "it") if missing == 1 else (f"{missing} rows have", "them")
-                self.remark(f"{table.word}: {rows} no match in {ref.other.word} by ({', '.join(own)}): lines along the ref drop {them}")
+                what = "" if drawing else f": lines along the ref drop {them}"
+                self.remark(f"{table.word}: {rows} no match in {ref.other.word} by ({', '.join(own)}){what}")
 
 
 def times(count):

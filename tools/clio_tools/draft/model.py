@@ -72,10 +72,11 @@ class Table:
 
 
 class Side:
-    """One side of a mapping text."""
+    """One side of a mapping text, or of a drawing, which can have refs in a circle, and as many as there are."""
 
-    def __init__(self, name, roots):
+    def __init__(self, name, roots, drawing=False):
         self.name = name
+        self.drawing = drawing
         self.roots = roots
         self.tables = [table for root in roots for table in root.within()]
         self._name_all()
@@ -132,7 +133,7 @@ class Side:
             ref.why_not = ref.why_not or self._why_no_ref(table, ref)
             if not ref.why_not:
                 table.refs.append(ref)
-                if max(self._occurrences().values()) > MOST_OCCURRENCES:
+                if not self.drawing and max(self._occurrences().values()) > MOST_OCCURRENCES:
                     table.refs.remove(ref)
                     ref.why_not = f"with it more than {MOST_OCCURRENCES} tables would follow from one along refs"
             if ref.why_not:
@@ -142,7 +143,7 @@ class Side:
                 table.notes.append(f"ref ({table.words(ref.columns)}) -> {other}{f' ({other_words})' if other_words else ''}: {ref.why_not}")
 
     def _why_no_ref(self, table, ref):
-        if ref.other is table:
+        if ref.other is table and not self.drawing:
             return "a set can't refer to itself; a rule can make such a link"
         if ref.other.why_not:
             return "that set is left out"
@@ -150,7 +151,7 @@ class Side:
             return "one of its columns is left out"
         if len(ref.columns) != len(ref.referred) or len(set(ref.columns)) < len(ref.columns) or len(set(ref.referred)) < len(ref.referred):
             return "its columns don't go to so many different ones"
-        if self._leads(ref.other, table):
+        if not self.drawing and self._leads(ref.other, table):
             return "it would close a circle of refs; a rule can make such a link"
         return ""
 

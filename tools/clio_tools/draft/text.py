@@ -11,7 +11,7 @@ def side_text(side):
     """The text, with what can't be said as comments."""
     lines = [f"{side.name} {{", *("  " + line for line in renamed(side))]
     for table in side.roots:
-        lines += set_lines(table, side.name, "  ")
+        lines += set_lines(table, side.name, "  ", side.drawing)
     return "\n".join(lines + ["}"]) + "\n"
 
 
@@ -25,18 +25,18 @@ def renamed(side):
                 yield f"// {shown(table.name)}.{shown(column.name)} is {table.word}.{column.word}"
 
 
-def set_lines(table, side_name, blanks):
+def set_lines(table, side_name, blanks, drawing=False):
     """The lines of a set, or the comment in its place."""
     if table.why_not:
         return [f"{blanks}// {shown(table.name)} is left out: {table.why_not}"]
     lines = [f"{blanks}set {table.word} {{", *wrapped([column.word for column in table.said], blanks + "  ")]
     within = [f"// {shown(column.name)} is left out: {column.why_not}" for column in table.columns if column.why_not]
     within += [key_line(table, key, side_name) for key in table.keys]
-    within += ref_lines(table, side_name)
+    within += ref_lines(table, side_name, drawing)
     within += [f"// {note}" for note in table.notes]
     lines += [f"{blanks}  {line}" for line in within]
     for inner in table.inner:
-        lines += set_lines(inner, side_name, blanks + "  ")
+        lines += set_lines(inner, side_name, blanks + "  ", drawing)
     return lines + [f"{blanks}}}"]
 
 
@@ -60,14 +60,26 @@ def key_line(table, key, side_name):
     return line
 
 
-def ref_lines(table, side_name):
+def ref_lines(table, side_name, drawing=False):
     seen = []
     for ref in table.refs:
         own, referred = ref.words(table)
-        line = f"ref ({', '.join(own)}) -> {ref.other.word} ({', '.join(referred)});"
-        if ref.other in seen:
-            line += f"  // a second ref to {ref.other.word}: a line of it goes both ways, so leave one out or write rules"
-        elif any(table.column(name).may_be_null for name in ref.columns):
-            line += f"  // NULL is allowed there, {NO_MATCH[side_name]}"
+        line = f"ref ({', '.join(own)}) -> {ref.other.word} ({', '.join(referred)})"
+        may_be_null = any(table.column(name).may_be_null for name in ref.columns)
+        if drawing:
+            line += drawn(table, ref, side_name, may_be_null)
+        elif ref.other in seen:
+            line += f";  // a second ref to {ref.other.word}: a line of it goes both ways, so leave one out, or draw (man clio-rules)"
+        else:
+            line += f";  // NULL is allowed there, {NO_MATCH[side_name]}" if may_be_null else ";"
         seen.append(ref.other)
         yield line
+
+
+def drawn(table, ref, side_name, may_be_null):
+    """The end of a ref in a drawing: one of the target that may be NULL is optional; of several to one set, how a line says which."""
+    own, _ = ref.words(table)
+    step = own[0] if len(own) == 1 else f"({', '.join(own)})"
+    several = sum(other.other is ref.other for other in table.refs) > 1 or ref.other is table
+    end = " optional;" if side_name == "target" and may_be_null else ";"
+    return end + (f"  // line .. by {step}" if several and side_name == "source" else "")

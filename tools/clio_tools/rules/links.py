@@ -73,14 +73,22 @@ def _link(drawing: Drawing, rows: Rows, link: Link) -> None:
         raise wrong(wishes[0].line, f"a line from a column and one from a set both give "
                     f"{table.name}.{table.columns[valued[0]]} a value")
     if link.circular:
-        if not wishes and not valued and rows.note is not None:
-            drawing.remarks.append(f"no line fills {drawing.column(rows, link.own[0])}, so it stays open: a ref in a "
-                                   f"circle "
-                                   f"takes a line, like line SET -> {drawing.column(rows, link.own[0])} by COLUMN;")
+        _remark_circle(drawing, rows, link)
     elif wishes:
         rows.uses += [_use(drawing, rows, wish) for wish in wishes]
     elif not valued and rows.note is not None:
         _guess(drawing, rows, link)
+
+
+def _remark_circle(drawing: Drawing, rows: Rows, link: Link) -> None:
+    """Remarks a ref in a circle that no line fills, in the rows of whatever source set."""
+    sets = drawing.noted[rows.target]
+    filled = any(wish.link is link for one in sets for wish in one.wishes) or \
+        any(column in one.values for one in sets for column in link.own)
+    if not filled and rows is sets[0] and rows.note:
+        of = drawing.column(rows, link.own[0])
+        drawing.remarks.append(f"no line fills {of}, so it stays open: a ref in a circle takes a line, like line "
+                               f"{drawing.source_of(rows).name} -> {of} by COLUMN;")
 
 
 def _use(drawing: Drawing, rows: Rows, wish: Wish) -> Use:

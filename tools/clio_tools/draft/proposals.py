@@ -1,0 +1,77 @@
+"""Notes of a drawing that names suggest, as comments: from which set the rows of a target set come, and lines."""
+import re
+from typing import Any, Iterator, Optional
+
+from clio_tools.mapping.parser import parse
+from clio_tools.mapping.schema import Schema, Table, schema_of
+from clio_tools.program import Refused
+from clio_tools.rules.ways import Step, Ways, spelled
+
+HEAD = "\n// What names suggest: take away the // of what is meant.\n"
+
+
+def proposals(source_text: bytes, side: Any) -> str:
+    """The proposed notes for a target side, of a source side as clio-draft printed it."""
+    found = re.search(rb"^source \{.*?^\}", source_text, re.M | re.S)
+    parsed = parse(b"mapping 3;\n" + (found[0] if found else b"") + b"\ntarget { }\n", drawing=True)
+    if parsed.faults or not found:
+        raise Refused("the file of --lines-from has no source as clio-draft prints it")
+    source = schema_of(parsed.tree.source, "source", circles=True).schema
+    naming = _Proposing(source, {_plain(table.word) for table in side.tables})
+    notes = [note for table in side.tables if not table.why_not for note in naming.of_set(table)]
+    return HEAD + "".join(f"// {note}\n" for note in notes)
+
+
+class _Proposing:
+    """Compares names without regard to case, marks and a plural s."""
+
+    def __init__(self, source: Schema, targets: set[str]) -> None:
+        self.source, self.ways = source, Ways(source)
+        self.free = [table for table in source.tables if _plain(table.name) not in targets]
+
+    def of_set(self, table: Any) -> Iterator[str]:
+        """The notes for one target set."""
+        words = [column.word for column in table.said]
+        start = self._alike(table.word, words)
+        if start is None:
+            yield f"rows {table.word} from ..;"
+            return
+        yield f"rows {table.word} from {start.name};"
+        linked = {column for ref in table.refs for column in ref.words(table)[0]}
+        for word in words:
+            if word not in linked:
+                yield from self._lines(start, table.word, word)
+
+    def _alike(self, name: str, words: list[str]) -> Optional[Table]:
+        """The source set that has the name, or else of those without a namesake that with most of the columns, two at
+        least."""
+        named = [table for table in self.source.tables if _plain(table.name) == _plain(name)]
+        if named:
+            return named[0]
+        wanted = {_plain(word) for word in words}
+        counts = [(len(wanted & {_plain(column) for column in table.declared}), -table.number) for table in self.free]
+        most, number = max(counts, default=(0, 0))
+        return self.source.tables[-number] if most > 1 else None
+
+    def _lines(self, start: Table, target: str, word: str) -> Iterator[str]:
+        """The lines to a column: from one of the same name, or of a set one step away, by each step that there is."""
+        own = next((column for column in start.declared if _plain(column) == _plain(word)), None)
+        if own:
+            yield f"line {start.name}.{own} -> {target}.{word};"
+            return
+        for step in self.ways.steps[start.number]:
+            other = self.source.tables[step.table]
+            for column in other.declared:
+                if _plain(word) in self._names(other, column, step):
+                    yield f"line {other.name}.{column} -> {target}.{word} by {spelled((step,))};"
+
+    def _names(self, other: Table, column: str, step: Step) -> set[str]:
+        """What a column of a linked row could be called: by itself, with the name of its set, with that of the ref."""
+        before = re.sub("(id|code|no|key)$", "", _plain("".join(step.words)))
+        return {_plain(column), _plain(other.name) + _plain(column), before + _plain(column)}
+
+
+def _plain(name: str) -> str:
+    """A name without case, marks and a plural s."""
+    letters = re.sub("ies$", "y", re.sub("[^a-z0-9]", "", name.lower()))
+    return letters[:-1] if letters.endswith("s") and len(letters) > 3 else letters
