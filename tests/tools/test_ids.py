@@ -60,11 +60,11 @@ class Ids(Trial):
 
     def test_grown(self):
         self.sales(["2", "ann", ""], ["3", "bob", ""])
-        self.assertEqual(self.printed("clio-ids", "ids.db"), "known 0\nnew 4\n")
+        self.assertEqual(self.printed("clio-ids", "ids.db"), "known 0\nnew 4\nchanged 0\n")
         before = self.customers()
         self.assertEqual(sorted(before.values()), ["1", "2"])
         self.sales(["0", "aaa", ""], ["1", "bob", ""], ["2", "ann", ""], ["3", "bob", ""])
-        self.assertEqual(self.printed("clio-ids", "ids.db"), "known 4\nnew 2\n")
+        self.assertEqual(self.printed("clio-ids", "ids.db"), "known 4\nnew 2\nchanged 0\n")
         after = self.customers()
         self.assertEqual({name: after[name] for name in before}, before)
         self.assertEqual({row[0]: row[2] for row in self.table("orders", ["oid", "note", "cid"])}["1"], before["bob"])

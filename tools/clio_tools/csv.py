@@ -56,6 +56,17 @@ def read_records(path, delimiter=",", strict=False):
 
     If strict, so are a quote that is never closed, and text between a closing quote and the end of its field.
     """
+    try:
+        with open(path, newline="", encoding="utf-8-sig") as file:
+            yield from filter(None, csv.reader(file, delimiter=delimiter, strict=strict))
+    except (UnicodeDecodeError, csv.Error):
+        for _ in _counted_records(path, delimiter, strict):
+            pass
+        raise Refused(f"{path} was changed while it was read") from None
+
+
+def _counted_records(path, delimiter, strict):
+    """The same, slower: it knows the number and the line of what it refuses."""
     with open(path, newline="", encoding="utf-8-sig", errors="surrogateescape") as file:
         reader = csv.reader(file, delimiter=delimiter, strict=strict)
         number = before = line = 0

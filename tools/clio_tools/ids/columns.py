@@ -1,22 +1,24 @@
 """Which columns have numbers, and which numbers can't be given."""
 import re
 
+from clio_tools.ids.crosswalk import Crosswalk
+from clio_tools.ids.damage import GREATEST
+from clio_tools.ids.nulls import NONE
+from clio_tools.ids.target import Target
+from clio_tools.mapping.text import Set
 from clio_tools.program import Refused
 
-from clio_tools.ids.nulls import NONE
-
 NUMERAL = re.compile(r"[1-9][0-9]{0,18}")
-GREATEST = 2**63 - 1  # no greater number is ever given
 
 
-def key_columns(table, tables):
+def key_columns(table: Set, tables: list[Set]) -> list[int]:
     """The columns of a table that are in a key or a ref, or that a ref leads to."""
     names = {name for key in table.keys for name in key} | {name for own, _, _ in table.links for name in own}
     names |= {name for other in tables for _, to, referred in other.links if to == table.name for name in referred}
     return [table.columns.index(name) for name in sorted(names)]
 
 
-def decided(target, crosswalk, chosen):
+def decided(target: Target, crosswalk: Crosswalk, chosen: dict[tuple[str, str], bool]) -> set[tuple[int, int]]:
     """The places of the columns that have numbers: those of keys and refs with nulls alone, as they were decided when they first had rows."""
     found = set()
     for place, table in enumerate(target.tables):
@@ -33,7 +35,7 @@ def decided(target, crosswalk, chosen):
     return found
 
 
-def numbered_nulls(target, columns):
+def numbered_nulls(target: Target, columns: set[tuple[int, int]]) -> bytearray:
     """For each null a mark, whether it stands in a column with numbers: such nulls are numbers wherever they stand."""
     marks = bytearray(target.nulls.count)
     for place, column in columns:
@@ -43,7 +45,7 @@ def numbered_nulls(target, columns):
     return marks
 
 
-def list_numerals(target, columns, numbered, crosswalk):
+def list_numerals(target: Target, columns: set[tuple[int, int]], numbered: bytearray, crosswalk: Crosswalk) -> None:
     """Makes a list of the numbers that are texts already in a column in which numbers stand, each with the column."""
     held = {(place, column) for place, listed in enumerate(target.cells) for column, cells in enumerate(listed)
             if (place, column) in columns or any(numbered[null] for null in cells if null != NONE)}
@@ -54,7 +56,7 @@ def list_numerals(target, columns, numbered, crosswalk):
                               if NUMERAL.fullmatch(row[column]) and int(row[column]) <= GREATEST)
 
 
-def check_numbers(target, crosswalk):
+def check_numbers(target: Target, crosswalk: Crosswalk) -> None:
     """No number that a thing has is a text in such a column."""
     for number, place, column in crosswalk.taken():
         table = target.tables[place]

@@ -24,26 +24,33 @@ number that is a text of such a column already, and files that are not of one ru
 Time grows with the cells and the nulls, some 50 seconds of a busy processor for each million nulls; memory with the nulls alone, a few bytes for each. A target of 4,000,000 cells with
 1,000,000 nulls took 80 seconds and 270 MB, a temporary file of 360 MB (in the folder that SQLITE_TMPDIR names, or /var/tmp), and 300 MB for the crosswalk.
 """
+import contextlib
 import os
 import pathlib
 import sqlite3
 
-from clio_tools.program import Refused, remark, run
 from clio_tools.ids.crosswalk import Crosswalk
+from clio_tools.ids.naming import Naming, told_change
 from clio_tools.ids.numbering import check_whole, number
 from clio_tools.ids.target import is_renamed
-from clio_tools.mapping.text import read_sets
+from clio_tools.mapping.text import Set, read_sets
+from clio_tools.program import Refused, harmless, remark, run
 
 USAGE = "usage: clio-ids CROSSWALK [--number SET.COLUMN] [--keep SET.COLUMN] [--nested]; the manual is man clio-ids"
 
+Chosen = dict[tuple[str, str], bool]
 
-def words_of(words):
+
+def words_of(words: list[str]) -> tuple[str, Chosen, bool]:
     """The crosswalk, which columns are decided by hand, and whether documents are rewritten."""
-    plain, chosen, nested, rest = [], {}, False, list(words)
+    plain: list[str] = []
+    chosen: Chosen = {}
+    nested, rest = False, list(words)
     while rest:
         word = rest.pop(0)
         if word in ("--number", "--keep") and rest and rest[0].count(".") == 1:
-            chosen[tuple(rest.pop(0).split("."))] = word == "--number"
+            name, column = rest.pop(0).split(".")
+            chosen[name, column] = word == "--number"
         elif word == "--nested":
             nested = True
         elif word.startswith("-"):
@@ -55,7 +62,7 @@ def words_of(words):
     return plain[0], chosen, nested
 
 
-def tables_of(chosen):
+def tables_of(chosen: Chosen) -> list[Set]:
     """The tables of the target; a column that was chosen must be there."""
     try:
         tables = read_sets(pathlib.Path("mapping.clio").read_bytes().decode("utf-8", "replace"))["target"]
@@ -67,7 +74,8 @@ def tables_of(chosen):
     return tables
 
 
-def work(words):
+def work(words: list[str]) -> None:
+    """Gives the nulls of `out` their numbers."""
     path, chosen, nested = words_of(words)
     tables = tables_of(chosen)
     try:
@@ -76,25 +84,34 @@ def work(words):
         raise Refused(f"SQLite says of {path}, or of a file that it needs beside it: {error}") from None
 
 
-def rewrite(path, chosen, nested, tables):
+def rewrite(path: str, chosen: Chosen, nested: bool, tables: list[Set]) -> None:
     """Gives the nulls their numbers; a crosswalk that was made for nothing goes away again."""
     is_done = is_renamed()
-    is_new = not os.path.exists(path)
-    crosswalk = Crosswalk(path)
-    done = False
-    try:
+    is_new = not os.path.lexists(path)
+    with contextlib.ExitStack() as at_the_end:
+        if is_new:
+            at_the_end.callback(pathlib.Path(path).unlink, missing_ok=True)
+        crosswalk = Crosswalk(path)
+        at_the_end.callback(crosswalk.close)
         if is_done:
             check_whole(crosswalk)
             remark("clio-ids", "out/ has its numbers already, and nothing is changed")
             return
         naming = number(tables, crosswalk, chosen, nested)
-        done = True
-    finally:
-        crosswalk.close()
-        if is_new and not done:
-            pathlib.Path(path).unlink(missing_ok=True)
-    print(f"known {naming.known}\nnew {naming.new}")
+        at_the_end.pop_all()
+    crosswalk.close()
+    tell(naming)
 
 
-def main():
+def tell(naming: Naming) -> None:
+    """Prints how many numbers are known, new and changed, and the first changes."""
+    print(f"known {naming.known}\nnew {naming.new}\nchanged {naming.changed}")
+    for change in naming.changes:
+        print(harmless(told_change(change)))
+    if naming.changed > len(naming.changes):
+        print(f"and {naming.changed - len(naming.changes)} more")
+
+
+def main() -> None:
+    """Runs the tool on the words of its command line."""
     run("clio-ids", work)
