@@ -1,12 +1,15 @@
-"""Compares what clio-sql makes with what clio writes, on random mappings with keys: dev/check-sql [COUNT [SEED [one | sessions | sqlite | several]]]
+"""Compares what clio-sql makes with what clio writes, on random mappings with keys: dev/check-sql [COUNT [SEED [one |
+sessions | sqlite | several]]]
 
-COUNT mappings (200 if it is left out), of six kinds of second_reading in turn, are exchanged in both modes by clio and by clio-sql, in a PostgreSQL server of
-its own in a temporary folder. A clash has to be a clash of both, and has to name two texts that a key makes equal. All tables, the nulls and the fold have to
-be the same. If clio-sql had clio reduce some rows, other nulls may have stayed: then each target has to map into the other one, with as many rows,
-and the fold has to send what the rules make onto the target. If it says that it left out rows, clio's core has to be in what it made, and no
-more rows than it says may be missing there. At a difference the folder of the mapping is kept. A refusal of clio doesn't count.
-Then a tenth as many are exchanged by three sessions, as many in SQLite, and the examples and a fortieth as many on three servers, over which
-clio-sql spreads all tables. The third word asks for one of these alone.
+COUNT mappings (200 if it is left out), of six kinds of second_reading in turn, are exchanged in both modes by clio
+and by clio-sql, in a PostgreSQL server of its own in a temporary folder. A clash has to be a clash of both, and has
+to name two texts that a key makes equal. All tables, the nulls and the fold have to be the same. If clio-sql had clio
+reduce some rows, other nulls may have stayed: then each target has to map into the other one, with as many rows, and
+the fold has to send what the rules make onto the target. If it says that it left out rows, clio's core has to be in
+what it made, and no more rows than it says may be missing there. At a difference the folder of the mapping is kept. A
+refusal of clio doesn't count. Then a tenth as many are exchanged by three sessions, as many in SQLite, and the
+examples and a fortieth as many on three servers, over which clio-sql spreads all tables. The third word asks for one
+of these alone.
 """
 import collections
 import contextlib

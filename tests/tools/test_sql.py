@@ -1,4 +1,5 @@
-"""clio-sql: what it makes in SQLite, against another reading of the rules, keys and dependencies. dev/check has PostgreSQL."""
+"""clio-sql: what it makes in SQLite, against another reading of the rules, keys and dependencies. dev/check has
+PostgreSQL."""
 import contextlib
 import copy
 import os
@@ -27,7 +28,8 @@ from values import Fact, ascending, image, nulls_of, read_value
 
 RANDOM = {"rules": 2, "lines": 2, "mixed": 2, "keyed": 4, "dependent": 6}
 STAND_IN = """#!/bin/sh
-# Shows the mapping without its dependencies, which change neither rules nor script: for a program that doesn't read them
+# Shows the mapping without its dependencies, which change neither rules nor script: for a program that doesn't read
+# them
 cd "%s/plain" && exec "%s" "$@"
 """
 
@@ -87,7 +89,8 @@ class Random(Trial):
         base.close()
 
     def compare(self, case, made, facts, covered, words):
-        """The target and its nulls, as the chase makes them of the facts, and the fold: first by covers, then by the chase."""
+        """The target and its nulls, as the chase makes them of the facts, and the fold: first by covers, then by the
+        chase."""
         chase = Chase(facts, case.mapping.target)
         status, out, said = self.tool("clio-sql", "sqlite", *words, "source.db", "target.db")
         if chase.clash:

@@ -5,7 +5,7 @@ from typing import Any
 from clio_tools.sql.script import Null
 from clio_tools.sql.stars import Part, Stars, part_of
 from clio_tools.sql.tables import NO_NULL, Table
-from clio_tools.sql.work import Row, Work
+from clio_tools.sql.work import Work
 
 
 class Clash(Exception):
@@ -44,7 +44,8 @@ class Determination:
         places = [place for place in self.right if self.table.cells[place].texts]
         if places:
             test = " OR ".join(f"c{place} <> z{place}" for place in places)
-            found = work.engine.rows(f"SELECT {', '.join(f'c{place}, z{place}' for place in places)} FROM {groups} WHERE {test} LIMIT 1", [])
+            shown = ", ".join(f"c{place}, z{place}" for place in places)
+            found = work.engine.rows(f"SELECT {shown} FROM {groups} WHERE {test} LIMIT 1", [])
             if found:
                 self.raise_clash(places, found[0])
 
@@ -55,7 +56,8 @@ class Determination:
             one, other = found[2 * number:2 * number + 2]
             if one != other and one is not None:
                 texts = ['"%s"' % text.replace("\\", "\\\\").replace('"', '\\"') for text in (one, other)]
-                raise Clash(f"clash: table {self.table.name}, key ({', '.join(names[one] for one in self.left)}): {texts[0]} and {texts[1]}"
+                key = ", ".join(names[one] for one in self.left)
+                raise Clash(f"clash: table {self.table.name}, key ({key}): {texts[0]} and {texts[1]}"
                             f" in column {names[place]}")
 
     def least_and_greatest(self) -> list[str]:
@@ -92,13 +94,20 @@ class Chase:
         """All determinations, each after those that feed it; one is asked again if its left columns have changed."""
         self.waiting = list(self.asked)
         while self.waiting and not (self.work.engine.is_plan and self.rounds >= 2 * len(self.asked)):
-            one = next((one for one in self.waiting if not any(other.feeds(one) for other in self.waiting if other is not one)), self.waiting[0])
+            one = self.next()
             self.waiting.remove(one)
             self.rounds += 1
             if one.is_key and one.is_simple():
                 self.ask_simple(one)
             else:
                 self.ask(one)
+
+    def next(self) -> Determination:
+        """One that no other feeds, if there is one."""
+        for one in self.waiting:
+            if not any(other.feeds(one) for other in self.waiting if other is not one):
+                return one
+        return self.waiting[0]
 
     def ask_simple(self, one: Determination) -> None:
         """A key whose groups share no nulls: it makes one row of each group at once."""
@@ -127,8 +136,8 @@ class Chase:
         if not table.work or table.is_loose:
             table.put(self.work.made("t", table.query(distinct=True), table.listed(one.left), f"rows of {table.name}"))
         by = table.listed(one.left)
-        groups = self.work.made("g", f"SELECT {', '.join(by + one.least_and_greatest())} FROM {table.work} AS t{' GROUP BY ' * bool(by)}{', '.join(by)}"
-                                     f" HAVING {' OR '.join(tests)}", by, what)
+        grouped = f"{table.work} AS t{' GROUP BY ' * bool(by)}{', '.join(by)} HAVING {' OR '.join(tests)}"
+        groups = self.work.made("g", f"SELECT {', '.join(by + one.least_and_greatest())} FROM {grouped}", by, what)
         one.check_clash(self.work, groups)
         queries = pair_queries(one, groups)
         if not queries:
@@ -137,10 +146,12 @@ class Chase:
         if not self.work.any(pair, True):
             return None
         heads = table.all_heads(one.right)
-        return part_of(self.work, self.stars.join(pair), heads, heads, any(table.cells[place].texts for place in one.right))
+        texts = any(table.cells[place].texts for place in one.right)
+        return part_of(self.work, self.stars.join(pair), heads, heads, texts)
 
     def apply(self, part: Part, done: Table | None) -> dict[str, set[int]]:
-        """Puts what nulls became into all tables and all earlier parts; answers the columns that may have changed, by table."""
+        """Puts what nulls became into all tables and all earlier parts; answers the columns that may have changed, by
+        table."""
         for earlier in self.parts:
             if earlier.after & part.before:
                 earlier.follow(self.work, part)
@@ -167,7 +178,8 @@ class Chase:
                 continue
             joins += f" LEFT JOIN {part.table} AS g{place} ON g{place}.u = t.n{place}"
             if part.texts or cell.texts:
-                shown.append((f"coalesce(t.c{place}, g{place}.c)" if old[place].texts else f"g{place}.c") + f" AS c{place}")
+                constant = f"coalesce(t.c{place}, g{place}.c)" if old[place].texts else f"g{place}.c"
+                shown.append(f"{constant} AS c{place}")
             shown.append(f"CASE WHEN g{place}.u IS NULL THEN t.n{place} ELSE g{place}.n END AS n{place}")
             cell.heads |= part.after
             cell.texts, cell.once = cell.texts or part.texts, False
@@ -186,10 +198,11 @@ def pair_queries(one: Determination, groups: str) -> list[str]:
     table, queries = one.table, []
     for place in one.right:
         if table.cells[place].heads:
-            queries.append(f"SELECT t.n{place} AS u, g.n{place} AS n, {table.words.no_text} AS c FROM {table.work} AS t JOIN {groups} AS g"
-                           f" ON {table.same('t', 'g', one.left)} WHERE t.n{place} <> g.n{place}")
+            queries.append(f"SELECT t.n{place} AS u, g.n{place} AS n, {table.words.no_text} AS c FROM {table.work} AS t"
+                           f" JOIN {groups} AS g ON {table.same('t', 'g', one.left)} WHERE t.n{place} <> g.n{place}")
             if table.cells[place].texts:
-                queries.append(f"SELECT g.n{place} AS u, {NO_NULL} AS n, g.c{place} AS c FROM {groups} AS g WHERE g.n{place} IS NOT NULL AND g.c{place} IS NOT NULL")
+                queries.append(f"SELECT g.n{place} AS u, {NO_NULL} AS n, g.c{place} AS c FROM {groups} AS g"
+                               f" WHERE g.n{place} IS NOT NULL AND g.c{place} IS NOT NULL")
     return queries
 
 
@@ -205,11 +218,11 @@ class Collapse:
         table, one = self.table, self.one
         by = table.listed(one.left)
         grouped = f" GROUP BY {', '.join(by)}" if by else " HAVING count(*) > 0"
-        groups = self.work.made("g", f"SELECT {', '.join(by + one.least_and_greatest())} FROM ({table.query(distinct=False)}) AS t{grouped}", by,
-                                f"key of {table.name}")
+        query = f"SELECT {', '.join(by + one.least_and_greatest())} FROM ({table.query(distinct=False)}) AS t{grouped}"
+        groups = self.work.made("g", query, by, f"key of {table.name}")
         many, filled = self.found(groups)
-        queries = [f"SELECT n{place} AS u, {NO_NULL} AS n, c{place} AS c FROM {groups} WHERE c{place} IS NOT NULL AND n{place} = x{place}"
-                   for place in filled]
+        queries = [f"SELECT n{place} AS u, {NO_NULL} AS n, c{place} AS c FROM {groups}"
+                   f" WHERE c{place} IS NOT NULL AND n{place} = x{place}" for place in filled]
         queries += [query for place in many for query in self.of_many(groups, place)]
         heads = table.all_heads(many), any(table.cells[place].texts for place in {*many, *filled})
         before = table.all_heads([*many, *filled])
@@ -228,10 +241,12 @@ class Collapse:
         clash = [any_of(" OR ".join(f"c{place} <> z{place}" for place in texts))] if texts else ["0"]
         several = [any_of(f"n{place} <> x{place}") for place in self.opens]
         mixed = [any_of(f"n{place} IS NOT NULL AND c{place} IS NOT NULL") for place in both]
-        row = self.work.row(f"SELECT {', '.join(clash + several + mixed)} FROM {groups}", (0, *[1] * (len(several) + len(mixed))))
+        assumed = (0, *[1] * (len(several) + len(mixed)))
+        row = self.work.row(f"SELECT {', '.join(clash + several + mixed)} FROM {groups}", assumed)
         if row[0]:
             self.one.check_clash(self.work, groups)
-        return ([place for place, one in zip(self.opens, row[1:]) if one], [place for place, one in zip(both, row[1 + len(self.opens):]) if one])
+        return ([place for place, one in zip(self.opens, row[1:]) if one],
+                [place for place, one in zip(both, row[1 + len(self.opens):]) if one])
 
     def of_many(self, groups: str, place: int) -> list[str]:
         """What went in a column of groups with several nulls, which are joined back to their rows."""
@@ -269,6 +284,3 @@ class Gone:
             gone = f"(g.c{self.place} IS NOT NULL OR g.n{self.place} <> t.n{self.place})"
         return (f"SELECT t.n{self.place} AS u, {n} AS n, {c} AS c FROM {rows} AS t JOIN {self.groups} AS g ON {same}"
                 f" WHERE g.n{self.place} <> g.x{self.place} AND {gone}")
-
-
-__all__ = ["Chase", "Clash", "Determination", "Row"]

@@ -5,25 +5,29 @@
     clio-sql postgres --servers FILE --source [CONNECTION]
     clio-sql postgres --servers FILE [--core] [--verbose] [CONNECTION]
 
-Run it in the folder of mapping.clio. The tables of the source are in the schema `source` (in SQLite: in the file SOURCE.db, which is only read),
-under the names and with the columns of the mapping; their cells are texts and never NULL. The target is made in the schema `target` (the file
-TARGET.db): its tables, with values as clio writes them, and `nulls` and `fold` with what nulls.csv and fold.csv have. Tables that an earlier run
-made there, or that have just these columns, are replaced; others are refused. CONNECTION is what `psql` takes. Where clio holds 4,000,000
-cells, a database holds more.
+Run it in the folder of mapping.clio. The tables of the source are in the schema `source` (in SQLite: in the file
+SOURCE.db, which is only read), under the names and with the columns of the mapping; their cells are texts and never
+NULL. The target is made in the schema `target` (the file TARGET.db): its tables, with values as clio writes them, and
+`nulls` and `fold` with what nulls.csv and fold.csv have. Tables that an earlier run made there, or that have just
+these columns, are replaced; others are refused. CONNECTION is what `psql` takes. Where clio holds 4,000,000 cells, a
+database holds more.
 
-In plain mode the target is the one that `clio exchange` writes. With --core, rows that other rules cover are left out, and what is left to reduce
-is fetched, reduced by `clio exchange --core`, and put back: the target is a core, or it is said what was not reduced, and why.
-If two constants contradict each other, a message of clio's status 3 is printed, and the status is 3. This tool isn't proved.
+In plain mode the target is the one that `clio exchange` writes. With --core, rows that other rules cover are left
+out, and what is left to reduce is fetched, reduced by `clio exchange --core`, and put back: the target is a core, or
+it is said what was not reduced, and why. If two constants contradict each other, a message of clio's status 3 is
+printed, and the status is 3. This tool isn't proved.
 
-All that is read of the source is of one state of it, and the target changes at the end in one transaction, or not at all; views, indexes and rights on
-its tables stay. A second run in the same database is refused. Work tables are in a schema of the run's own, which is dropped; they take a multiple
-of the source. --sessions N makes the matches and writes by N sessions at once. --verbose prints the statements with their seconds and rows;
---explain prints all SQL and runs none. On a terminal the steps are shown as they are done.
+All that is read of the source is of one state of it, and the target changes at the end in one transaction, or not at
+all; views, indexes and rights on its tables stay. A second run in the same database is refused. Work tables are in a
+schema of the run's own, which is dropped; they take a multiple of the source. --sessions N makes the matches and
+writes by N sessions at once. --verbose prints the statements with their seconds and rows; --explain prints all SQL
+and runs none. On a terminal the steps are shown as they are done.
 
-With --servers the rows are on several PostgreSQL servers: each line of FILE says how one is reached, as `host=db1 dbname=parts user=clio`. The database of
-CONNECTION runs the same SQL; there each table is a partitioned one whose parts are tables of the servers (by the extension postgres_fdw, which the
-tool sets up). With --source the tables of the source are made so, empty, and are then loaded through that database. In the databases of
-the servers the rows are in schemas that begin with clio_. The source may also be in the database of CONNECTION itself.
+With --servers the rows are on several PostgreSQL servers: each line of FILE says how one is reached, as `host=db1
+dbname=parts user=clio`. The database of CONNECTION runs the same SQL; there each table is a partitioned one whose
+parts are tables of the servers (by the extension postgres_fdw, which the tool sets up). With --source the tables of
+the source are made so, empty, and are then loaded through that database. In the databases of the servers the rows are
+in schemas that begin with clio_. The source may also be in the database of CONNECTION itself.
 """
 import argparse
 import pathlib

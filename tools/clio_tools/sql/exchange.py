@@ -1,48 +1,19 @@
-"""The whole exchange on an engine: matches, what keys and dependencies make equal, in core mode what covers and what reduces, and the tables."""
+"""The whole exchange on an engine: matches, what keys and dependencies make equal, in core mode what covers and what
+reduces, and the tables."""
 import re
-from typing import NamedTuple, Protocol
+from typing import NamedTuple
 
+from clio_tools.mapping.text import Mapping, Set
 from clio_tools.sql.chase import Chase, Determination
 from clio_tools.sql.covering import Covering
 from clio_tools.sql.reducing import Reducer, Rest
 from clio_tools.sql.rigid import Rigid
-from clio_tools.sql.script import Null, Script
+from clio_tools.sql.script import Script
 from clio_tools.sql.stars import Part
-from clio_tools.sql.tables import Heads, Table
+from clio_tools.sql.tables import Heads, Inserts, Table
 from clio_tools.sql.words import quoted
 from clio_tools.sql.work import Made, Work
 from clio_tools.sql.writing import Writer
-
-
-class Condition(Protocol):
-    """A test that the texts of a source column have to pass."""
-    set: str
-    column: str
-    test: str
-
-
-class TableLike(Protocol):
-    """A table of a mapping."""
-    name: str
-
-    @property
-    def columns(self) -> list[str]:
-        """The names of its columns."""
-
-    @property
-    def keys(self) -> list[list[str]]:
-        """The columns of each key."""
-
-    @property
-    def dependencies(self) -> list[tuple[list[str], list[str]]]:
-        """The columns that decide, and those that they decide."""
-
-
-class MappingLike(Protocol):
-    """What an exchange asks of a mapping beside its script."""
-    source: list[TableLike]
-    target: list[TableLike]
-    conditions: list[Condition]
 
 
 class Ended(NamedTuple):
@@ -54,12 +25,12 @@ class Ended(NamedTuple):
 class Exchange:
     """An exchange of a mapping, by its script."""
 
-    def __init__(self, work: Work, script: Script, mapping: MappingLike, core: bool, sessions: int = 1) -> None:
+    def __init__(self, work: Work, script: Script, mapping: Mapping, core: bool, sessions: int = 1) -> None:
         self.work, self.script, self.mapping, self.core, self.sessions = work, script, mapping, core, sessions
         self.heads = Heads(script.inserts)
         widths = {rule: len(match.exported) for rule, match in script.matches.items()}
-        self.tables = [Table(given.name, given.columns, [one for one in script.inserts if one.table == given.name], self.heads, work.words, widths)
-                       for given in mapping.target]
+        inserts = Inserts(script.inserts, self.heads, work.words, widths)
+        self.tables = [Table(given.name, given.columns, inserts) for given in mapping.target]
 
     def run(self) -> Ended:
         """All of it."""
@@ -93,7 +64,7 @@ class Exchange:
         parts.append(part)
 
 
-def determinations(table: Table, given: TableLike) -> list[Determination]:
+def determinations(table: Table, given: Set) -> list[Determination]:
     """For each key of a table its columns and all columns, then the dependencies."""
     keys = [Determination(table, key, table.columns) for key in given.keys]
     return keys + [Determination(table, left, right) for left, right in given.dependencies]
@@ -102,13 +73,13 @@ def determinations(table: Table, given: TableLike) -> list[Determination]:
 class Matches:
     """Makes the tables of matches, each with the places that name nulls."""
 
-    def __init__(self, work: Work, script: Script, mapping: MappingLike) -> None:
+    def __init__(self, work: Work, script: Script, mapping: Mapping) -> None:
         self.work, self.script, self.words, self.mapping = work, script, work.words, mapping
 
     def make(self) -> None:
         """Those of all rules, and of these those that are kept."""
         names = self.passing()
-        numbered = {insert.rule for insert in self.script.inserts if any(isinstance(cell, Null) for cell in insert.cells)}
+        numbered = {insert.rule for insert in self.script.inserts if insert.has_null}
         tables = []
         for rule in self.script.matches:
             query = self.query(rule, names, rule in numbered or bool(self.script.covers))
@@ -127,18 +98,22 @@ class Matches:
         return [insert.rule for insert in self.script.inserts].count(rule)
 
     def passing(self) -> dict[str, str]:
-        """A view of the rows that pass for each source table with conditions; answers the names that stand for tables."""
+        """A view of the rows that pass for each source table with conditions; answers the names that stand for
+        tables."""
         names = {}
         for table in self.mapping.source:
-            tests = [self.words.passes(f'"{one.column}"', one.test) for one in self.mapping.conditions if one.set == table.name]
+            tests = [self.words.passes(f'"{one.column}"', one.test) for one in self.mapping.conditions
+                     if one.set == table.name]
             if tests:
-                names[table.name] = self.work.view("passing", f'SELECT * FROM source."{table.name}" WHERE {" AND ".join(tests)}')
+                query = f'SELECT * FROM source."{table.name}" WHERE {" AND ".join(tests)}'
+                names[table.name] = self.work.view("passing", query)
         return names
 
     def query(self, rule: int, names: dict[str, str], numbered: bool) -> str:
         """The matches of a rule, each once."""
         match = self.script.matches[rule]
-        columns = [f"{self.words.exported(one)}{self.words.by_bytes} AS c{place}" for place, one in enumerate(match.exported)]
+        columns = [f"{self.words.exported(one)}{self.words.by_bytes} AS c{place}"
+                   for place, one in enumerate(match.exported)]
         query = f"SELECT DISTINCT {', '.join(columns) or '0 AS c0'} FROM {read_names(match.source, names)}"
         if not numbered:
             return query
@@ -147,7 +122,8 @@ class Matches:
 
     def joined_by(self, rule: int) -> list[str]:
         """The columns by which the matches of a rule are looked up: all that a cover asks for."""
-        found = [column for covers in self.script.covers.values() for cover in covers if cover.rule == rule for column in cover.columns.values()]
+        found = [column for covers in self.script.covers.values() for cover in covers if cover.rule == rule
+                 for column in cover.columns.values()]
         return [f"c{column}" for column in sorted(set(found))]
 
     def kept(self, rule: int) -> str:

@@ -1,4 +1,5 @@
-"""Prints the SQL of an exchange and runs none of it: each question is answered so that most follows, and loops are printed once."""
+"""Prints the SQL of an exchange and runs none of it: each question is answered so that most follows, and loops are
+printed once."""
 from collections.abc import Sequence
 
 from clio_tools.sql.words import Words
@@ -11,8 +12,9 @@ class Plan:
 
     def __init__(self, words: Words) -> None:
         self.words = words
-        self.say(f"-- SQL of {words.name}, in the order in which clio-sql runs it. A query that is not part of a statement is a question; what follows hangs on")
-        self.say("-- its answer, and is printed as if all could be so. Work tables are in a schema of the run's own.")
+        self.say(f"-- SQL of {words.name}, in the order in which clio-sql runs it. A query by itself is a question;")
+        self.say("-- what follows hangs on its answer, and is printed as if all could be so. Loops are printed once.")
+        self.say("-- Work tables are in a schema of the run's own.")
 
     def say(self, text: str) -> None:
         """Prints a line."""
@@ -46,7 +48,7 @@ class Plan:
         self.run(f'CREATE TABLE target."{name}" AS {" UNION ALL ".join(parts)}')
 
     def publish(self) -> dict[str, int]:
-        self.say("-- The tables of the target are made beside those that are there, and put in their place at the end of the transaction.")
+        self.say("-- The tables of the target are made beside those that are there, and put in their place at the end.")
         return {}
 
     def close(self) -> None:

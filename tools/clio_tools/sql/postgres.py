@@ -1,4 +1,5 @@
-"""PostgreSQL: one transaction on one snapshot, or several sessions on one snapshot, and a target that changes in one transaction or not at all."""
+"""PostgreSQL: one transaction on one snapshot, or several sessions on one snapshot, and a target that changes in one
+transaction or not at all."""
 import secrets
 import threading
 from collections.abc import Sequence
@@ -13,19 +14,28 @@ LOCK = 0x636C696F  # the number of the lock that a run holds in its database
 WORK = "work tables of a run of clio-sql; they can be dropped when it has ended"
 MADE = "made by clio-sql"
 # no nested loops: with LIMIT 1, or before there are statistics, they are planned for millions of rows
-SETTINGS = ("SET client_min_messages = warning; SET client_encoding = 'UTF8'; SET standard_conforming_strings = on; SET default_statistics_target = 10;"
-            " SET enable_nestloop = off; SET jit = off; SET max_parallel_workers_per_gather = 0")
-THERE = """SELECT c.relkind IN ('r', 'p'), coalesce(obj_description(c.oid, 'pg_class') = {made}, false), c.relkind = 'r',
- ARRAY(SELECT attname::text FROM pg_attribute WHERE attrelid = c.oid AND attnum > 0 AND NOT attisdropped ORDER BY attnum),
- c.relacl IS NOT NULL OR EXISTS (SELECT 1 FROM pg_depend WHERE refclassid = 'pg_class'::regclass AND refobjid = c.oid AND deptype IN ('n', 'a'))
-  OR EXISTS (SELECT 1 FROM pg_description WHERE classoid = 'pg_class'::regclass AND objoid = c.oid AND description <> {made})
+SETTINGS = ("SET client_min_messages = warning; SET client_encoding = 'UTF8'; SET standard_conforming_strings = on;"
+            " SET default_statistics_target = 10; SET enable_nestloop = off; SET jit = off;"
+            " SET max_parallel_workers_per_gather = 0")
+# of a table of the target: whether it is one, whether clio-sql made it, whether it is in one piece, its columns, and
+# whether anything hangs on it: rights, views, indexes, a comment
+THERE = """SELECT c.relkind IN ('r', 'p'), coalesce(obj_description(c.oid, 'pg_class') = {made}, false),
+ c.relkind = 'r', ARRAY(SELECT attname::text FROM pg_attribute WHERE attrelid = c.oid AND attnum > 0
+  AND NOT attisdropped ORDER BY attnum),
+ c.relacl IS NOT NULL
+  OR EXISTS (SELECT 1 FROM pg_depend WHERE refclassid = 'pg_class'::regclass AND refobjid = c.oid
+   AND deptype IN ('n', 'a'))
+  OR EXISTS (SELECT 1 FROM pg_description WHERE classoid = 'pg_class'::regclass AND objoid = c.oid
+   AND description <> {made})
 FROM pg_class AS c JOIN pg_namespace AS n ON n.oid = c.relnamespace WHERE n.nspname = 'target' AND c.relname = {name}"""
-LEFT = """SELECT nspname::text FROM pg_namespace WHERE nspname LIKE 'clio\\_run\\_%' AND obj_description(oid, 'pg_namespace') = {work}
+LEFT = """SELECT nspname::text FROM pg_namespace
+ WHERE nspname LIKE 'clio\\_run\\_%' AND obj_description(oid, 'pg_namespace') = {work}
  AND pg_has_role(nspowner, 'USAGE')"""
 
 
 class Postgres:
-    """One PostgreSQL database. With one session the whole run is one transaction, of which nothing is left if it fails."""
+    """One PostgreSQL database. With one session the whole run is one transaction, of which nothing is left if it
+    fails."""
     words = POSTGRES
     is_plan = False
 
@@ -34,7 +44,7 @@ class Postgres:
         self.is_one_snapshot = sessions == 1
         self.prepared: list[tuple[str, Sequence[str], Sequence[str]]] = []
         self.counts: dict[str, int] = {}
-        self.refilled: dict[str, bool] = {}  # for each table of the target that is there: whether it keeps its place, as something hangs on it
+        self.refilled: dict[str, bool] = {}  # whether a table that is there keeps its place, as something hangs on it
         self.sessions: list[Session] = []
         try:
             self.sessions = [Session(connection, log) for _ in range(sessions)]
@@ -58,7 +68,8 @@ class Postgres:
             session.made(SETTINGS)
         if self.is_one_snapshot:
             self.one.made("BEGIN ISOLATION LEVEL REPEATABLE READ")
-        self.one.made("".join(f"CREATE SCHEMA {name}; COMMENT ON SCHEMA {name} IS {literal(WORK)};" for name in (self.schema, self.made_in)))
+        for name in self.schema, self.made_in:
+            self.one.made(f"CREATE SCHEMA {name}; COMMENT ON SCHEMA {name} IS {literal(WORK)}")
         for session in self.sessions:
             session.made(f"SET search_path = {self.schema}")
 
@@ -73,9 +84,11 @@ class Postgres:
             if found:
                 is_table, is_made, is_plain, there, is_hung = found[0]
                 if not is_table or (not is_made and there != columns):
-                    raise Refused(f"target.{name} is there, and is no table of these columns that clio-sql could replace: rename it, or drop it")
+                    raise Refused(f"target.{name} is there, and is no table of these columns that clio-sql could"
+                                  " replace: rename it, or drop it")
                 if is_hung and is_plain and there != columns:
-                    raise Refused(f"something hangs on target.{name}, which is to have other columns now: drop that first, as a view or an index")
+                    raise Refused(f"something hangs on target.{name}, which is to have other columns now:"
+                                  " drop that first, as a view or an index")
                 self.refilled[name] = is_hung and is_plain
 
     def run(self, sql: str) -> int:
@@ -104,7 +117,8 @@ class Postgres:
             session.made("COMMIT")
 
     def together(self, statements: Sequence[str]) -> list[int]:
-        """Runs statements that don't hang on each other, on all sessions at once; answers the rows of each. An interrupt cancels them all."""
+        """Runs statements that don't hang on each other, on all sessions at once; answers the rows of each. An
+        interrupt cancels them all."""
         waiting, rows, failed = list(enumerate(statements))[::-1], [-1] * len(statements), list[BaseException]()
         lock = threading.Lock()
 
@@ -155,13 +169,16 @@ class Postgres:
             self.one.made("CREATE SCHEMA target")
         for name, columns, _ in self.prepared:
             self.put(name, columns)
-        self.one.made(f"DROP SCHEMA {self.schema} CASCADE; DROP SCHEMA {self.made_in} CASCADE; COMMIT")
+        self.one.made(f"DROP SCHEMA {self.schema} CASCADE; DROP SCHEMA {self.made_in} CASCADE")
+        self.one.commit()
         return self.counts
 
     def write_together(self) -> None:
         """Fills the tables of the target by all sessions."""
-        self.together([f'CREATE TABLE {self.made_in}."{name}" AS {parts[0]} WITH NO DATA' for name, _, parts in self.prepared])
-        rows = self.together([f'INSERT INTO {self.made_in}."{name}" {part}' for name, _, parts in self.prepared for part in parts])
+        self.together([f'CREATE TABLE {self.made_in}."{name}" AS {parts[0]} WITH NO DATA'
+                       for name, _, parts in self.prepared])
+        rows = self.together([f'INSERT INTO {self.made_in}."{name}" {part}'
+                              for name, _, parts in self.prepared for part in parts])
         for name, _, parts in self.prepared:
             self.counts[name] = sum(rows[:len(parts)])
             rows = rows[len(parts):]
@@ -171,7 +188,8 @@ class Postgres:
         if self.refilled.get(name):
             listed = ", ".join(f'"{column}"' for column in columns)
             self.one.made(f'TRUNCATE target."{name}"')
-            self.counts[name] = self.one.made(f'INSERT INTO target."{name}" ({listed}) SELECT * FROM {self.made_in}."{name}"')
+            self.counts[name] = self.one.made(f'INSERT INTO target."{name}" ({listed})'
+                                              f' SELECT * FROM {self.made_in}."{name}"')
             return
         self.one.made(f'DROP TABLE IF EXISTS target."{name}"; ALTER TABLE {self.made_in}."{name}" SET SCHEMA target;'
                      f' COMMENT ON TABLE target."{name}" IS {literal(MADE)}')

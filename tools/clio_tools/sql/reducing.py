@@ -1,7 +1,9 @@
-"""Reduces to a core what is left to look at: the rows with open nulls are fetched, and the proved reduction of `clio exchange --core` decides.
+"""Reduces to a core what is left to look at: the rows with open nulls are fetched, and the proved reduction of `clio
+exchange --core` decides.
 
-A part of the rows, whole blocks of them, becomes the conclusions of rules, in which the open nulls are existential variables; the rows to which
-these can go are copied by other rules. In both a constant and a null that stays are texts. What clio folds is put into the tables.
+A part of the rows, whole blocks of them, becomes the conclusions of rules, in which the open nulls are existential
+variables; the rows to which these can go are copied by other rules. In both a constant and a null that stays are
+texts. What clio folds is put into the tables.
 """
 import pathlib
 import subprocess
@@ -101,7 +103,8 @@ def blocks_of(rows: Sequence[OpenRow]) -> list[list[OpenRow]]:
 
 @dataclass
 class Pass:
-    """What clio reduces at once: blocks by their shapes, each list of values once, with the rows to which they can go."""
+    """What clio reduces at once: blocks by their shapes, each list of values once, with the rows to which they can
+    go."""
     shapes: dict[Shape, dict[tuple[Value, ...], Block]] = field(default_factory=dict)
     twins: list[tuple[Block, Block]] = field(default_factory=list)  # blocks that say what another one says
 
@@ -134,12 +137,14 @@ class Program:
             folder = pathlib.Path(name)
             (folder / "mapping.clio").write_text(self.mapping(), encoding="utf-8")
             self.write(folder)
-            ended = subprocess.run([program(), "exchange", "--core"], cwd=folder, stdin=subprocess.DEVNULL, capture_output=True, check=False)
+            ended = subprocess.run([program(), "exchange", "--core"], cwd=folder, stdin=subprocess.DEVNULL,
+                                   capture_output=True, check=False)
             if ended.returncode:
                 raise Refused(f"clio doesn't reduce the rest: {ended.stderr.decode(errors='replace').strip()}")
             nulls = self.nulls()
-            value = lambda text: nulls[text] if text.startswith("?") else text  # noqa: E731
-            found: dict[int, Value | int] = {nulls[null]: value(text) for null, text in read_table(folder / "out" / "fold.csv", ["null", "value"])}
+            found: dict[int, Value | int] = {}
+            for null, value in read_table(folder / "out" / "fold.csv", ["null", "value"]):
+                found[nulls[null]] = nulls[value] if value.startswith("?") else value
         for twin, first in self.one.twins:
             found.update({null: found.get(other, other) for null, other in zip(twin.nulls, first.nulls)})
         return found
@@ -149,7 +154,8 @@ class Program:
         names = {}
         for rule, (_, blocks) in enumerate(self.one.shapes.items(), len(self.widths)):
             for place, values in enumerate(sorted(blocks, key=lambda values: [value.encode() for value in values])):
-                names.update({f"?{rule}.{variable}.{place}": null for variable, null in enumerate(blocks[values].nulls)})
+                for variable, null in enumerate(blocks[values].nulls):
+                    names[f"?{rule}.{variable}.{place}"] = null
         return names
 
     def mapping(self) -> str:
@@ -168,7 +174,8 @@ class Program:
     def write(self, folder: pathlib.Path) -> None:
         """The source files."""
         for table, width in self.widths.items():
-            rows = [[cell if isinstance(cell, str) else f"n{cell}" for cell in row.cells] for row in self.fixed if row.table == table]
+            rows = [[cell if isinstance(cell, str) else f"n{cell}" for cell in row.cells]
+                    for row in self.fixed if row.table == table]
             write_table(folder / f"f{table}.csv", [f"a{place}" for place in range(width)], rows)
         for number, (shape, blocks) in enumerate(self.one.shapes.items()):
             for part, chunk in enumerate(chunks(shape)):
@@ -210,21 +217,25 @@ class Reducer:
         for number, table in enumerate(self.rigid.tables):
             name, opens = self.rigid.marked(table), self.rigid.opens(table)
             some = " OR ".join(map(is_open, opens))
-            opened += self.rows(number, table, f"SELECT {self.columns(table)} FROM {name} AS r WHERE {some} LIMIT {ROWS + 1}")
+            columns = self.columns(table)
+            opened += self.rows(number, table, f"SELECT {columns} FROM {name} AS r WHERE {some} LIMIT {ROWS + 1}")
             for hidden in self.rigid.forms(table, name):
                 shown = [place for place in range(len(table.columns)) if place not in hidden]
                 key = ", ".join(key_columns(table, shown)) or "1 AS one"
                 these = f"SELECT DISTINCT {key} FROM {name} WHERE {self.rigid.is_form(table, hidden)}"
                 none = " AND ".join(f"NOT {is_open(place, 'r.')}" for place in opens)
-                closed += self.rows(number, table, f"SELECT {self.columns(table)} FROM {name} AS r JOIN ({these}) AS o"
-                                                   f" ON {same_key(table, shown, 'r', 'o')} WHERE {none} LIMIT {ROWS + 1}")
+                same = same_key(table, shown, "r", "o")
+                query = f"SELECT {columns} FROM {name} AS r JOIN ({these}) AS o ON {same} WHERE {none}"
+                closed += self.rows(number, table, f"{query} LIMIT {ROWS + 1}")
         return opened, sorted(set(closed))
 
     def columns(self, table: Table) -> str:
         """For each column of marked rows its constant, its null, and its null if that stays."""
-        opens, cells = self.rigid.opens(table), table.cells
-        return ", ".join(f"{f'r.c{place}' if cell.texts else 'NULL'}, {f'r.o{place}' if cell.heads else 'NULL'},"
-                         f" {f'r.k{place}' if place in opens else f'r.o{place}' if cell.heads else 'NULL'}" for place, cell in enumerate(cells))
+        opens, shown = self.rigid.opens(table), []
+        for place, cell in enumerate(table.cells):
+            null = f"r.o{place}" if cell.heads else "NULL"
+            shown += [f"r.c{place}" if cell.texts else "NULL", null, f"r.k{place}" if place in opens else null]
+        return ", ".join(shown)
 
     def rows(self, number: int, table: Table, query: str) -> Iterator[OpenRow]:
         """The rows that a query for these columns answers."""
@@ -246,7 +257,8 @@ class Reducer:
             others = [row for row in moved(opened, fold) if not any(cell in here for cell in row.cells)]
             fold.update(Program(widths, one, sorted({*others, *closed}, key=repr)).fold())
         left = [rows for rows in blocks if len(rows) > BLOCK_ROWS]
-        return fold, Rest(sum(map(len, small)), len(small), sum(map(len, left)), len(left), f"a block has more than {BLOCK_ROWS} rows" if left else "")
+        why = f"a block has more than {BLOCK_ROWS} rows" if left else ""
+        return fold, Rest(sum(map(len, small)), len(small), sum(map(len, left)), len(left), why)
 
     def part(self, fold: dict[int, Value | int]) -> Part:
         """The part of the nulls that went."""
@@ -257,7 +269,8 @@ class Reducer:
             rows.append((null, number, str(value)[1:] if is_text else None))
         table = self.work.name("gone")
         self.work.engine.load(table, ["u bigint", "n bigint", f"c text{self.work.words.by_bytes}"], rows)
-        return Part(table, {row[0] // SHIFT for row in rows}, {row[1] // SHIFT for row in rows if row[1] is not None}, any(row[2] is not None for row in rows))
+        after = {row[1] // SHIFT for row in rows if row[1] is not None}
+        return Part(table, {row[0] // SHIFT for row in rows}, after, any(row[2] is not None for row in rows))
 
 
 def passes(blocks: Iterable[Block], tables: int) -> Iterator[Pass]:

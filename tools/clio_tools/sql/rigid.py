@@ -1,8 +1,8 @@
 """What the reduction to a core still has to look at.
 
-Every homomorphism of the target into itself keeps constants. If a row is the only one of its table that agrees with it in the columns that hold
-constants or nulls known to be kept, it goes to itself, so its nulls are kept too. What is left when no more nulls become known so are
-rows with open nulls; rows that share an open null are in one block.
+Every homomorphism of the target into itself keeps constants. If a row is the only one of its table that agrees with
+it in the columns that hold constants or nulls known to be kept, it goes to itself, so its nulls are kept too. What is
+left when no more nulls become known so are rows with open nulls; rows that share an open null are in one block.
 """
 from collections.abc import Iterator, Sequence
 
@@ -28,7 +28,8 @@ class Rigid:
             found = [query for table in self.tables for query in self.kept_of(table)]
             if not found:
                 return
-            self.known = self.work.made("known", " UNION ".join([f"SELECT u FROM {self.known}", *found]), ["u"], "nulls that stay")
+            query = " UNION ".join([f"SELECT u FROM {self.known}", *found])
+            self.known = self.work.made("known", query, ["u"], "nulls that stay")
             after = self.work.number(f"SELECT count(*) FROM {self.known}", 0)
 
     def opens(self, table: Table) -> list[int]:
@@ -43,10 +44,13 @@ class Rigid:
             if cell.heads:
                 shown.append(f"t.n{place} AS o{place}")
             if place in opens:
-                by_head = "".join(f"WHEN {head_of(f't.n{place}')} = {head} THEN t.n{place} " for head in sorted(cell.heads & self.known_heads))
+                null, known = f"t.n{place}", sorted(cell.heads & self.known_heads)
+                by_head = "".join(f"WHEN {head_of(null)} = {head} THEN {null} " for head in known)
                 shown.append(f"CASE {by_head}ELSE k{place}.u END AS k{place}" if by_head else f"k{place}.u AS k{place}")
                 joins += f" LEFT JOIN {self.known} AS k{place} ON k{place}.u = t.n{place}"
-        return self.work.made("marked", f"SELECT {', '.join(shown)} FROM ({table.query(distinct=True)}) AS t{joins}", key_columns(table, range(len(table.cells))))
+        query = f"SELECT {', '.join(shown)} FROM ({table.query(distinct=True)}) AS t{joins}"
+        key = key_columns(table, range(len(table.cells)))
+        return self.work.made("marked", query, key, f"open nulls of {table.name}")
 
     def kept_of(self, table: Table) -> Iterator[str]:
         """Queries for the open nulls of rows that are the only ones with what is known of them."""
@@ -57,8 +61,8 @@ class Rigid:
             group = f" GROUP BY {', '.join(key)}" if key else ""
             once = f"SELECT {', '.join([*key, 'count(*) AS number'])} FROM {name}{group} HAVING count(*) = 1"
             for place in hidden:
-                yield (f"SELECT t.o{place} AS u FROM {name} AS t JOIN ({once}) AS o ON {same_key(table, shown, 't', 'o')}"
-                       f" WHERE {self.is_form(table, hidden, 't.')}")
+                yield (f"SELECT t.o{place} AS u FROM {name} AS t JOIN ({once}) AS o"
+                       f" ON {same_key(table, shown, 't', 'o')} WHERE {self.is_form(table, hidden, 't.')}")
 
     def forms(self, table: Table, name: str) -> list[list[int]]:
         """The lists of columns that are open together in some row."""
@@ -70,7 +74,8 @@ class Rigid:
 
     def is_form(self, table: Table, hidden: Sequence[int], alias: str = "") -> str:
         """That just these columns of a row are open."""
-        return " AND ".join(is_open(place, alias) if place in hidden else f"NOT {is_open(place, alias)}" for place in self.opens(table))
+        return " AND ".join(is_open(place, alias) if place in hidden else f"NOT {is_open(place, alias)}"
+                            for place in self.opens(table))
 
     def left(self) -> tuple[int, int]:
         """How many rows have open nulls, and in how many blocks they are."""
@@ -79,7 +84,8 @@ class Rigid:
             name, opens = self.marked(table), self.opens(table)
             rows += self.work.number(f"SELECT count(*) FROM {name} WHERE {' OR '.join(map(is_open, opens))}")
             least = self.work.words.least_of([f"CASE WHEN {is_open(other)} THEN o{other} END" for other in opens])
-            parts += [f"SELECT o{place} AS u, {least} AS n, {self.work.words.no_text} AS c FROM {name} WHERE {is_open(place)}" for place in opens]
+            parts += [f"SELECT o{place} AS u, {least} AS n, {self.work.words.no_text} AS c FROM {name}"
+                      f" WHERE {is_open(place)}" for place in opens]
         return (rows, self.blocks(parts)) if rows else (0, 0)
 
     def blocks(self, parts: Sequence[str]) -> int:
@@ -107,7 +113,8 @@ def same_key(table: Table, places: Sequence[int], one: str, other: str) -> str:
         cell = table.cells[place]
         for name in key_columns(table, [place]):
             here, there = f"{one}.{name}", f"{other}.{name}"
-            tests.append(table.words.agree(here, there, "c" if name[0] == "c" else "n") if cell.texts and cell.heads else f"{here} = {there}")
+            both = cell.texts and cell.heads
+            tests.append(table.words.agree(here, there, name[0]) if both else f"{here} = {there}")
     return " AND ".join(tests) or "1 = 1"
 
 

@@ -21,7 +21,8 @@ CELL = re.compile(r"([xy])([0-9]+)|\"((?:[^\"\\]|\\.)*)\"")
 
 
 class Cell(NamedTuple):
-    """A cell of a conclusion: a variable (`x`), an existential one (`y`), each with its number, or a literal (no kind) with its text."""
+    """A cell of a conclusion: a variable (`x`), an existential one (`y`), each with its number, or a literal (no
+    kind) with its text."""
     kind: str
     number: int
     text: str = ""
@@ -40,7 +41,8 @@ class Rule:
         arrow = ARROW.match(text)
         if not arrow:
             raise ValueError(f"this is no rule that clio shows: {text}")
-        self.conclusion = [Atom(name, tuple(cell_of(found) for found in CELL.finditer(cells))) for name, cells in ATOM.findall(text[arrow.end():])]
+        self.conclusion = [Atom(name, tuple(map(cell_of, CELL.finditer(cells))))
+                           for name, cells in ATOM.findall(text[arrow.end():])]
         cells = [cell for atom in self.conclusion for cell in atom.cells]
         self.exported = sorted({cell.number for cell in cells if cell.kind == "x"})
         self.existential = sorted({cell.number for cell in cells if cell.kind == "y"})
@@ -66,7 +68,8 @@ class Match(NamedTuple):
 
 
 class Cover(NamedTuple):
-    """What covers a match: another rule, and for each exported column the column there or the literal that it has to equal."""
+    """What covers a match: another rule, and for each exported column the column there or the literal that it has to
+    equal."""
     rule: int
     columns: dict[int, int]
     literals: dict[int, str]
@@ -77,6 +80,11 @@ class Insert(NamedTuple):
     table: str
     cells: list[str | Null]
     matches: str
+
+    @property
+    def has_null(self) -> bool:
+        """Whether each row has a null."""
+        return any(isinstance(cell, Null) for cell in self.cells)
 
     @property
     def rule(self) -> int:
@@ -133,8 +141,10 @@ def split(text: str) -> list[str]:
 
 
 def shown(core: bool) -> Script:
-    """The rules and the script of the mapping in this folder, from `clio show`; what it refuses ends the tool as it ends clio."""
-    show = subprocess.run([program(), "show", *["--core"] * core], stdin=subprocess.DEVNULL, capture_output=True, check=False)
+    """The rules and the script of the mapping in this folder, from `clio show`; what it refuses ends the tool as it
+    ends clio."""
+    words = [program(), "show", *["--core"] * core]
+    show = subprocess.run(words, stdin=subprocess.DEVNULL, capture_output=True, check=False)
     if show.returncode:
         sys.stderr.buffer.write(show.stderr)
         sys.exit(show.returncode)

@@ -1,16 +1,18 @@
-"""Several PostgreSQL servers as one. Each table is a partitioned one on the server that is asked: its rows are on the others, each by a hash of some
-of its columns, as tables that postgres_fdw reads and writes there. The SQL stays the same.
+"""Several PostgreSQL servers as one. Each table is a partitioned one on the server that is asked: its rows are on the
+others, each by a hash of some of its columns, as tables that postgres_fdw reads and writes there. The SQL stays
+the same.
 
-In a database of the servers the tables are in schemas that begin with the sign of the server, clio_ and a hash of how it is reached, and work tables
-in a schema of the run. In the database that is asked, the names of these tables are in schemas with `_link`.
+In a database of the servers the tables are in schemas that begin with the sign of the server, clio_ and a hash of how
+it is reached, and work tables in a schema of the run. In the database that is asked, the names of these tables are in
+schemas with `_link`.
 """
 import hashlib
 from collections.abc import Iterator, Sequence
 
 from clio_tools.databases import postgres
 from clio_tools.databases.postgres import literal
+from clio_tools.mapping.text import Set
 from clio_tools.program import Refused
-from clio_tools.sql.exchange import TableLike
 from clio_tools.sql.postgres import LEFT, LOCK, WORK, Postgres
 from clio_tools.sql.session import Log, Session, unlogged
 from clio_tools.sql.words import POSTGRES
@@ -18,14 +20,17 @@ from clio_tools.sql.work import Made, Row
 
 KEYS = 32  # PostgreSQL takes no more columns in the key of a partition
 SETTINGS = "async_capable 'true', use_remote_estimate 'true', fetch_size '10000', batch_size '1000'"
-PARTS = """SELECT s.srvname::text, o.option_name, o.option_value FROM pg_inherits AS i JOIN pg_foreign_table AS f ON f.ftrelid = i.inhrelid
+PARTS = """SELECT s.srvname::text, o.option_name, o.option_value
+ FROM pg_inherits AS i JOIN pg_foreign_table AS f ON f.ftrelid = i.inhrelid
  JOIN pg_foreign_server AS s ON s.oid = f.ftserver CROSS JOIN pg_options_to_table(f.ftoptions) AS o
  WHERE i.inhparent = to_regclass({name}) ORDER BY i.inhrelid, o.option_name"""
+UNLOGGED = {"log_statement": "none", "log_min_duration_statement": "-1", "log_min_error_statement": "panic"}
 Columns = Sequence[tuple[str, str]]  # names, and types with their collations
 
 
 def reached(lines: Sequence[str]) -> list[postgres.Place]:
-    """How the servers of a list are reached; a line that says it otherwise is told by its number alone, as it may hold a password."""
+    """How the servers of a list are reached; a line that says it otherwise is told by its number alone, as it may
+    hold a password."""
     places = []
     for number, line in enumerate(lines, 1):
         if not line.strip():
@@ -35,7 +40,8 @@ def reached(lines: Sequence[str]) -> list[postgres.Place]:
                 raise Refused("")
             places.append(postgres.place_of(line.strip()))
         except Refused:
-            raise Refused(f"line {number} of the servers is neither words as libpq knows them, such as host=db1 dbname=parts, nor a URI") from None
+            raise Refused(f"line {number} of the servers is neither words as libpq knows them, such as host=db1"
+                          " dbname=parts, nor a URI") from None
     if not places or len({sign(place) for place in places}) < len(places):
         raise Refused("the list has no server, or one twice")
     return places
@@ -62,7 +68,8 @@ class Server:
         if not self.session.values(f"SELECT pg_try_advisory_lock({LOCK + 1})")[0][0]:
             raise Refused("another run of clio-sql is under way on one of the servers")
         here = run.rsplit("_", 1)[0]  # the run, whose schemas are here too if the database that is asked has a part
-        for name, in self.session.values(LEFT.format(work=literal(WORK)) + f" AND NOT starts_with(nspname, {literal(here)})"):
+        others = f"{LEFT.format(work=literal(WORK))} AND NOT starts_with(nspname, {literal(here)})"
+        for name, in self.session.values(others):
             self.session.made(f'DROP SCHEMA "{name}" CASCADE')
 
     def schema(self, kind: str) -> str:
@@ -83,7 +90,8 @@ class Server:
         """What makes the server known to the one that is asked; the last has the password."""
         words = {word: value for word, value in self.place.words.items() if word != "user"}
         user = {"user": self.place.words["user"]} if "user" in self.place.words else {}
-        yield f"CREATE SERVER IF NOT EXISTS {self.sign} FOREIGN DATA WRAPPER postgres_fdw OPTIONS ({', '.join(filter(None, [options(words), SETTINGS]))})"
+        listed = ", ".join(filter(None, [options(words), SETTINGS]))
+        yield f"CREATE SERVER IF NOT EXISTS {self.sign} FOREIGN DATA WRAPPER postgres_fdw OPTIONS ({listed})"
         yield f"DROP USER MAPPING IF EXISTS FOR CURRENT_USER SERVER {self.sign}"
         found = options({**user, **self.place.secrets})
         yield f"CREATE USER MAPPING FOR CURRENT_USER SERVER {self.sign}" + (f" OPTIONS ({found})" if found else "")
@@ -114,8 +122,9 @@ class Servers(Postgres):
     def set_up(self) -> None:
         """Makes the servers known; the server that is asked logs no password, if this user can ask for that."""
         # in a schema that stays, as a server falls with its extension, and an extension with its schema
-        self.one.made("CREATE SCHEMA IF NOT EXISTS clio_servers; CREATE EXTENSION IF NOT EXISTS postgres_fdw SCHEMA clio_servers")
-        for setting, value in ("log_statement", "none"), ("log_min_duration_statement", "-1"), ("log_min_error_statement", "panic"):
+        self.one.made("CREATE SCHEMA IF NOT EXISTS clio_servers")
+        self.one.made("CREATE EXTENSION IF NOT EXISTS postgres_fdw SCHEMA clio_servers")
+        for setting, value in UNLOGGED.items():
             self.one.attempt(f"SET {setting} = {literal(value)}")
         for server in self.servers:
             for statement in server.made_known():
@@ -124,7 +133,7 @@ class Servers(Postgres):
             for kind in "source", "target", "work":
                 self.one.made(f"CREATE SCHEMA IF NOT EXISTS {server.link(kind)}")
             self.one.made(f"COMMENT ON SCHEMA {server.link('work')} IS {literal(WORK)}")
-        for setting in "log_statement", "log_min_duration_statement", "log_min_error_statement":
+        for setting in UNLOGGED:
             self.one.attempt(f"RESET {setting}")
 
     def spread(self, name: str, kind: str, part: str, columns: Columns, by: Sequence[str]) -> None:
@@ -133,10 +142,12 @@ class Servers(Postgres):
         self.one.made(f"CREATE TABLE {name} ({listed}) PARTITION BY HASH ({', '.join(by[:KEYS])})")
         for place, server in enumerate(self.servers):
             table = POSTGRES.table if kind == "work" else "TABLE"
-            server.session.made(f'DROP TABLE IF EXISTS {server.schema(kind)}."{part}"; CREATE {table} {server.schema(kind)}."{part}" ({listed})')
+            here = f'{server.schema(kind)}."{part}"'
+            server.session.made(f"DROP TABLE IF EXISTS {here}; CREATE {table} {here} ({listed})")
             self.one.made(f'CREATE FOREIGN TABLE {server.link(kind)}."{part}" PARTITION OF {name}'
                           f" FOR VALUES WITH (MODULUS {len(self.servers)}, REMAINDER {place})"
-                          f" SERVER {server.sign} OPTIONS (schema_name {literal(server.schema(kind))}, table_name {literal(part)})")
+                          f" SERVER {server.sign} OPTIONS (schema_name {literal(server.schema(kind))},"
+                          f" table_name {literal(part)})")
 
     def columns(self, query: str, collation: str) -> Columns:
         """The names and types of the columns of a query."""
@@ -187,11 +198,11 @@ class Servers(Postgres):
 
     def publish(self) -> dict[str, int]:
         old = [found for name, _, _ in self.prepared for found in self.parts_of(f'target."{name}"')]
-        with self.one.transaction():
-            self.one.made("SET LOCAL lock_timeout = '60s'; CREATE SCHEMA IF NOT EXISTS target")
-            self.refilled.clear()  # what hangs on a table here has it refused
-            for name, columns, _ in self.prepared:
-                self.put(name, columns)
+        self.one.made("BEGIN; SET LOCAL lock_timeout = '60s'; CREATE SCHEMA IF NOT EXISTS target")
+        self.refilled.clear()  # a table on which something hangs can't be dropped: then the run fails
+        for name, columns, _ in self.prepared:
+            self.put(name, columns)
+        self.one.commit()
         self.unpublished.clear()
         for server in self.servers:
             for schema, part in [found[1:] for found in old if found[0] == server.sign]:
@@ -204,12 +215,13 @@ class Servers(Postgres):
         pairs = zip(found[::2], found[1::2])  # schema_name and table_name of each part
         return [(one[0], one[2], other[2]) for one, other in pairs]
 
-    def make_source(self, tables: Sequence[TableLike]) -> None:
+    def make_source(self, tables: Sequence[Set]) -> None:
         """Makes the tables of the source, empty, for whoever loads them."""
         self.one.made("CREATE SCHEMA IF NOT EXISTS source")
         for table in tables:
             columns = [(column, "text") for column in table.columns]
-            self.spread(f'source."{table.name}"', "source", table.name, columns, [f'"{column}"' for column in table.columns])
+            by = [f'"{column}"' for column in table.columns]
+            self.spread(f'source."{table.name}"', "source", table.name, columns, by)
 
     def close(self) -> None:
         """Drops what was worked on, here and on the servers."""

@@ -26,23 +26,24 @@ def unlogged(sql: str, seconds: float, rows: int) -> None:
 
 
 class Session(postgres.Session):
-    """A session in which each statement is a transaction of its own, unless one is begun. A statement whose client is gone ends."""
+    """A session in which each statement is a transaction of its own, unless one is begun. A statement whose client is
+    gone ends."""
 
     def __init__(self, connection: str | postgres.Place | None, log: Log = unlogged) -> None:
-        self.log, self.is_begun = log, False
+        self.log, self.fate = log, ""
         super().__init__(connection)
         if self.connection.info.server_version >= 140000:
             self.attempt("SET client_connection_check_interval = '5s'")
-        self.is_begun = True
+        self.fate = "; the target is as it was"
 
     def _error(self, error: "psycopg.Error") -> postgres.DatabaseError:
         """What the server says, before it the cause in plain words, and after it what became of the target."""
         found = super()._error(error)
         cause = CAUSES.get(found.sqlstate or "")
-        if not cause and found.sqlstate is None and self.is_begun:
+        if not cause and found.sqlstate is None and self.fate:
             cause = "the connection is lost"
         said = f"{cause}: {found.cause}" if cause else found.cause
-        return postgres.DatabaseError(f"{said}; the target is as it was" if self.is_begun else said, found.sqlstate)
+        return postgres.DatabaseError(said + self.fate, found.sqlstate)
 
     def asked(self, sql: str) -> "psycopg.Cursor[Any]":
         """Runs statements."""
@@ -61,6 +62,12 @@ class Session(postgres.Session):
         cursor = self.asked(query)
         with self._told():
             return cursor.fetchall()
+
+    def commit(self) -> None:
+        """Ends what was begun, with all that was done."""
+        self.fate = "; whether the target has changed is not known, so run it again"
+        self.made("COMMIT")
+        self.fate = "; the target has changed"
 
     def attempt(self, sql: str) -> None:
         """Runs a statement that may fail."""

@@ -6,22 +6,19 @@ import time
 from collections.abc import Sequence
 
 
+from clio_tools.mapping.meanings import CONVERSIONS
 from clio_tools.program import Refused
 from clio_tools.sql.session import Log, unlogged
-from clio_tools.sql.words import SQLITE
+from clio_tools.sql.words import SQLITE, quoted
 from clio_tools.sql.work import Made, Row
 
 MADE = "/* made by clio-sql */"
 LOOKED_UP = ("u", "place")  # columns of numbers by which single rows are looked up
 
 
-def digits(text: str) -> str:
-    """The digits of a text."""
-    return "".join(sign for sign in text if sign in "0123456789")
-
-
 class Sqlite:
-    """One transaction: what is asked of the source is of one state of it, and the target changes at its end, or not at all."""
+    """One transaction: what is asked of the source is of one state of it, and the target changes at its end, or not
+    at all."""
     words = SQLITE
     is_plan, is_one_snapshot = False, True
 
@@ -38,7 +35,7 @@ class Sqlite:
             self.base = sqlite3.connect("", isolation_level=None, uri=True)
             self.base.execute("ATTACH ? AS source", (f"{pathlib.Path(source).resolve().as_uri()}?mode=ro",))
             self.base.execute("ATTACH ? AS target", (self.target.resolve().as_uri(),))
-            self.base.create_function("clio_digits", 1, digits, deterministic=True)
+            self.base.create_function("clio_digits", 1, CONVERSIONS["digits"].apply, deterministic=True)
             for schema in "main", "target":
                 self.base.execute(f"PRAGMA {schema}.cache_size = -200000")
             self.base.execute("BEGIN IMMEDIATE")
@@ -58,11 +55,12 @@ class Sqlite:
     def prepare(self, tables: dict[str, list[str]]) -> None:
         self.columns = tables
         for name, columns in tables.items():
-            found = self.asked("SELECT type, sql FROM target.sqlite_schema WHERE name = '%s'" % name.replace("'", "''")).fetchone()
+            found = self.asked(f"SELECT type, sql FROM target.sqlite_schema WHERE name = {quoted(name)}").fetchone()
             if found and found[0] != "table":
                 raise Refused(f"{self.target} has a {found[0]} {name}, where a table is to be made")
             if found and MADE not in found[1] and self.columns_of(name) != columns:
-                raise Refused(f"{self.target} has a table {name} with other columns, which clio-sql didn't make: rename it, or drop it")
+                raise Refused(f"{self.target} has a table {name} with other columns, which clio-sql didn't make:"
+                              " rename it, or drop it")
 
     def columns_of(self, name: str) -> list[str]:
         """The columns of a table of the target."""

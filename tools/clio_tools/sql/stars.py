@@ -1,12 +1,13 @@
 """Nulls that went: tables of what each became, and how pairs that have to be equal are joined to such tables."""
-from clio_tools.sql.tables import NO_NULL, head_of
+from clio_tools.sql.tables import head_of
 from clio_tools.sql.work import Row, Work
 
 FIRST = -(1 << 60)  # texts are numbered from here while pairs are joined: below all nulls
 
 
 class Part:
-    """A table of nulls that went: u, and n or c, what it became; with the heads of both, and whether some became constants."""
+    """A table of nulls that went: u, and n or c, what it became; with the heads of both, and whether some became
+    constants."""
 
     def __init__(self, table: str, before: set[int], after: set[int], texts: bool) -> None:
         self.table, self.before, self.after, self.texts = table, before, after, texts
@@ -14,21 +15,27 @@ class Part:
 
     def follow(self, work: Work, other: "Part") -> None:
         """Puts what nulls became by another part in the place of these nulls."""
-        self.table = work.made("fold", f"SELECT e.u, CASE WHEN g.u IS NULL THEN e.n ELSE g.n END AS n, coalesce(g.c, e.c) AS c"
-                                       f" FROM {self.table} AS e LEFT JOIN {other.table} AS g ON g.u = e.n", ["u"])
+        self.table = work.made("fold", followed(self.table, other.table), ["u"])
         self.after |= other.after
         self.texts |= other.texts
 
 
+def followed(table: str, other: str) -> str:
+    """The nulls of one table, with what became by another one of what they became."""
+    return (f"SELECT e.u, CASE WHEN g.u IS NULL THEN e.n ELSE g.n END AS n, coalesce(g.c, e.c) AS c"
+            f" FROM {table} AS e LEFT JOIN {other} AS g ON g.u = e.n")
+
+
 def part_of(work: Work, table: str, before: set[int], after: set[int], texts: bool) -> Part | None:
     """The part of a table of nulls that went, or None if it has none; the heads that it may have are given."""
-    becomes: list[int | None] = [*sorted(after)] or [None]
-    assumed: list[Row] = [(u, n, int(texts)) for u in sorted(before) for n in becomes]
-    found = work.engine.rows(f"SELECT {head_of('u')} AS u, {head_of('n')} AS n, max(CASE WHEN c IS NOT NULL THEN 1 ELSE 0 END) FROM {table}"
-                             f" GROUP BY {head_of('u')}, {head_of('n')}", assumed)
+    assumed: list[Row] = [(u, n, int(texts)) for u in sorted(before) for n in [*sorted(after), None]]
+    query = (f"SELECT {head_of('u')} AS u, {head_of('n')} AS n, max(CASE WHEN c IS NOT NULL THEN 1 ELSE 0 END)"
+             f" FROM {table} GROUP BY {head_of('u')}, {head_of('n')}")
+    found = work.engine.rows(query, assumed)
     if not found:
         return None
-    return Part(table, {int(row[0]) for row in found}, {int(row[1]) for row in found if row[1] is not None}, any(row[2] for row in found))
+    becomes = [int(row[1]) for row in found if row[1] is not None]
+    return Part(table, {int(row[0]) for row in found}, set(becomes), any(row[2] for row in found))
 
 
 class Stars:
@@ -38,20 +45,22 @@ class Stars:
         self.work, self.steps = work, 0
 
     def are_stars(self, table: str, least: int, assumed: bool) -> bool:
-        """Whether each u has one lesser neighbour, which has none; a neighbour below `least` needn't be asked for lesser ones."""
+        """Whether each u has one lesser neighbour, which has none; a neighbour below `least` needn't be asked for
+        lesser ones."""
         return not (self.work.any(f"{table} GROUP BY u HAVING count(*) > 1", assumed)
                     or self.work.any(f"{table} WHERE v >= {least} AND v IN (SELECT u FROM {table})", assumed))
 
     def join(self, pair: str) -> str:
         """The table of what each null of some pairs becomes."""
-        if not self.work.any(f"{pair} GROUP BY u HAVING count(*) > 1", True) and not self.work.any(f"{pair} WHERE n IN (SELECT u FROM {pair})", True):
+        twice = self.work.any(f"{pair} GROUP BY u HAVING count(*) > 1", True)
+        if not twice and not self.work.any(f"{pair} WHERE n IN (SELECT u FROM {pair})", True):
             return pair
         texts = self.work.made("texts", f"SELECT c, row_number() OVER (ORDER BY c) + {FIRST} AS v"
                                         f" FROM (SELECT DISTINCT c FROM {pair} WHERE c IS NOT NULL) AS q", ["c"])
-        now = self.work.made("pair", f"SELECT p.u, coalesce(p.n, t.v) AS v FROM {pair} AS p LEFT JOIN {texts} AS t ON t.c = p.c", ["u"])
-        now = self.stars(now)
-        return self.work.made("gone", f"SELECT p.u, CASE WHEN p.v >= 0 THEN p.v END AS n, t.c FROM {now} AS p LEFT JOIN {texts} AS t ON t.v = p.v"
-                                      " WHERE p.u >= 0", ["u"])
+        numbers = f"SELECT p.u, coalesce(p.n, t.v) AS v FROM {pair} AS p LEFT JOIN {texts} AS t ON t.c = p.c"
+        now = self.stars(self.work.made("pair", numbers, ["u"]))
+        return self.work.made("gone", f"SELECT p.u, CASE WHEN p.v >= 0 THEN p.v END AS n, t.c FROM {now} AS p"
+                                      f" LEFT JOIN {texts} AS t ON t.v = p.v WHERE p.u >= 0", ["u"])
 
     def stars(self, pair: str) -> str:
         """Lesser neighbours pass on the least of theirs, until all are stars."""
@@ -59,13 +68,9 @@ class Stars:
         while not self.are_stars(pair, 0, assumed):
             self.steps, assumed = self.steps + 1, False
             least = self.work.made("least", f"SELECT u, min(v) AS v FROM {pair} GROUP BY u", ["u"])
-            far = self.work.made("far", f"SELECT DISTINCT p.u, coalesce(l.v, p.v) AS v FROM {pair} AS p LEFT JOIN {least} AS l ON l.u = p.v", ["u"])
+            far = self.work.made("far", f"SELECT DISTINCT p.u, coalesce(l.v, p.v) AS v FROM {pair} AS p"
+                                        f" LEFT JOIN {least} AS l ON l.u = p.v", ["u"])
             least = self.work.made("least", f"SELECT u, min(v) AS v FROM {far} GROUP BY u", ["u"])
-            pair = self.work.made("pair", f"SELECT u, v FROM {least} UNION SELECT f.v, l.v FROM {far} AS f JOIN {least} AS l ON l.u = f.u"
-                                          " WHERE f.v <> l.v", ["u"])
+            pair = self.work.made("pair", f"SELECT u, v FROM {least} UNION SELECT f.v, l.v FROM {far} AS f"
+                                          f" JOIN {least} AS l ON l.u = f.u WHERE f.v <> l.v", ["u"])
         return pair
-
-
-def no_part(words_no_text: str) -> str:
-    """A query of no nulls."""
-    return f"SELECT CAST(0 AS bigint) AS u, {NO_NULL} AS n, {words_no_text} AS c WHERE 1 = 0"

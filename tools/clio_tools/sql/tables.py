@@ -1,12 +1,14 @@
 """The tables of the target as they are worked on.
 
-A cell that may be a null is two columns: c has its constant, or NULL, and n a number, or NULL: that of the head (rule and variable) of
-the null, shifted by 40 bits, and the place. So nulls are compared and joined as numbers, which are in the order of their names; the names are
-made once, where tables are written. A column that never has nulls has no n, and one that has nothing else no c.
+A cell that may be a null is two columns: c has its constant, or NULL, and n a number, or NULL: that of the head (rule
+and variable) of the null, shifted by 40 bits, and the place. So nulls are compared and joined as numbers, which are
+in the order of their names; the names are made once, where tables are written. A column that never has nulls has no
+n, and one that has nothing else no c.
 """
 import copy
 from collections.abc import Sequence
 from dataclasses import dataclass
+from typing import NamedTuple
 
 from clio_tools.sql.script import Insert, Null
 from clio_tools.sql.words import Words
@@ -46,11 +48,21 @@ class Heads:
         return code(self.number[null], place)
 
 
+class Inserts(NamedTuple):
+    """All inserts of a script, the heads of their nulls, and how many columns the matches of each rule have."""
+    all: Sequence[Insert]
+    heads: Heads
+    words: Words
+    widths: dict[int, int]
+
+
 class Table:
     """A target table: at first what its inserts say, later a work table or a view."""
 
-    def __init__(self, name: str, columns: list[str], inserts: list[Insert], heads: Heads, words: Words, widths: dict[int, int]) -> None:
-        self.name, self.columns, self.inserts, self.heads, self.words, self.widths = name, columns, inserts, heads, words, widths
+    def __init__(self, name: str, columns: list[str], given: Inserts) -> None:
+        self.name, self.columns = name, columns
+        self.inserts = [insert for insert in given.all if insert.table == name]
+        self.heads, self.words, self.widths = given.heads, given.words, given.widths
         self.work: str | None = None
         self.is_loose = False  # whether the work table may have a row twice
         self.cells = [self.cell(place) for place in range(len(columns))]
@@ -100,8 +112,9 @@ class Table:
         return self.words.text(out) if out.startswith("'") else out
 
     def is_apart(self, insert: Insert) -> bool:
-        """Whether each match makes a row here that nothing else makes: it has a null, and its rule no other insert here."""
-        return any(isinstance(cell, Null) for cell in insert.cells) and [other.rule for other in self.inserts].count(insert.rule) == 1
+        """Whether each match makes a row here that nothing else makes: it has a null, and its rule no other insert
+        here."""
+        return insert.has_null and [other.rule for other in self.inserts].count(insert.rule) == 1
 
     def is_whole(self) -> bool:
         """Whether the insert that isn't apart has all columns of its matches, which makes its rows distinct."""
@@ -113,7 +126,8 @@ class Table:
         if self.work:
             return f"SELECT {'DISTINCT ' * (distinct and self.is_loose)}* FROM {self.work}"
         if not self.inserts:
-            return "SELECT " + ", ".join(f"{self.words.text(chr(39) * 2)} AS c{place}" for place in range(len(self.columns))) + " WHERE 1 = 0"
+            cells = ", ".join(f"{self.words.no_text} AS c{place}" for place in range(len(self.columns)))
+            return f"SELECT {cells} WHERE 1 = 0"
         if not distinct:
             return " UNION ALL ".join(map(self.insert_query, self.inserts))
         apart = [self.insert_query(insert) for insert in self.inserts if self.is_apart(insert)]

@@ -65,11 +65,15 @@ class Words:
 
 
 POSTGRES = Words(
-    name="PostgreSQL", table="UNLOGGED TABLE", view="VIEW", by_bytes=' COLLATE "C"', by_language=' COLLATE "default"', least="LEAST({})", cell="{}",
-    conversions={"trim": "btrim({0}, ' ')", "digits": "regexp_replace({0}, '[^0123456789]', '', 'g')", "pair": "{0} || ' ' || {1}"},
+    name="PostgreSQL", table="UNLOGGED TABLE", view="VIEW",
+    by_bytes=' COLLATE "C"', by_language=' COLLATE "default"', least="LEAST({})", cell="{}",
+    conversions={"trim": "btrim({0}, ' ')", "digits": "regexp_replace({0}, '[^0123456789]', '', 'g')",
+                 "pair": "{0} || ' ' || {1}"},
     tests={"filled": "{0} <> ''", "numeric": "{0} ~ '^[0123456789]+$'"}, has_indexes=False, has_statistics=True)
 
 SQLITE = Words(
-    name="SQLite", table="TABLE", view="TEMP VIEW", by_bytes=" COLLATE BINARY", by_language="", least="(SELECT min(column1) FROM (VALUES {}))", cell="({})",
+    name="SQLite", table="TABLE", view="TEMP VIEW",
+    by_bytes=" COLLATE BINARY", by_language="", least="(SELECT min(column1) FROM (VALUES {}))", cell="({})",
     conversions={"trim": "trim({0}, ' ')", "digits": "clio_digits({0})", "pair": "{0} || ' ' || {1}"},
-    tests={"filled": "{0} <> ''", "numeric": "({0} <> '' AND {0} NOT GLOB '*[^0-9]*')"}, has_indexes=True, has_statistics=False)
+    tests={"filled": "{0} <> ''", "numeric": "({0} <> '' AND {0} NOT GLOB '*[^0-9]*')"},
+    has_indexes=True, has_statistics=False)

@@ -24,7 +24,8 @@ class Engine(Protocol):
     is_one_snapshot: bool  # whether all that is asked of the source is of one state of it
 
     def prepare(self, tables: dict[str, list[str]]) -> None:
-        """Refuses tables of the target, given with their columns, that can't be put in the place of those that are there."""
+        """Refuses tables of the target, given with their columns, that can't be put in the place of those that are
+        there."""
 
     def run(self, sql: str) -> int:
         """Runs a statement; answers how many rows it made, or -1."""

@@ -1,7 +1,7 @@
 """The tables that are left, with values as clio writes them: the target, its nulls, and the fold."""
 from collections.abc import Sequence
 
-from clio_tools.sql.script import Insert, Null, Script
+from clio_tools.sql.script import Insert, Script
 from clio_tools.sql.stars import Part
 from clio_tools.sql.tables import SHIFT, Heads, Table, code, head_of
 from clio_tools.sql.words import Words, quoted
@@ -57,9 +57,11 @@ class Writer:
             with self.work.step(f"writing {table.name}"):
                 self.work.engine.write(table.name, table.columns, self.table(table))
         with self.work.step("writing nulls"):
-            self.work.engine.write("nulls", ["null", "variable", "value"], self.nulls() or [nothing("null", "variable", "value")])
+            columns = ["null", "variable", "value"]
+            self.work.engine.write("nulls", columns, self.nulls() or [nothing(*columns)])
         with self.work.step("writing fold"):
-            self.work.engine.write("fold", ["null", "value"], [self.fold(part) for part in self.parts] or [nothing("null", "value")])
+            columns = ["null", "value"]
+            self.work.engine.write("fold", columns, list(map(self.fold, self.parts)) or [nothing(*columns)])
 
     def table(self, table: Table) -> list[str]:
         """The queries for a table."""
@@ -67,7 +69,8 @@ class Writer:
                           for place, (cell, name) in enumerate(zip(table.cells, table.columns)))
         if table.work or not table.inserts or not all(map(table.is_apart, table.inserts)):
             return [f"SELECT {cells} FROM ({table.query(distinct=True)}) AS t"]
-        return [f"SELECT {cells} FROM ({table.insert_query(insert, where=where)}) AS t" for insert in table.inserts for where in self.wheres(" WHERE ")]
+        return [f"SELECT {cells} FROM ({table.insert_query(insert, where=where)}) AS t"
+                for insert in table.inserts for where in self.wheres(" WHERE ")]
 
     def wheres(self, word: str) -> list[str]:
         """Conditions on places that part the rows of matches."""
@@ -75,16 +78,19 @@ class Writer:
 
     def nulls(self) -> list[str]:
         """For each null that is left the values that its rule exports at its place."""
-        return [self.nulls_of(head, where) for head, null in enumerate(self.heads.nulls) if self.script.rules[null.rule].exported
-                for where in self.wheres(" AND ")]
+        return [self.nulls_of(head, where) for head, null in enumerate(self.heads.nulls)
+                if self.script.rules[null.rule].exported for where in self.wheres(" AND ")]
 
     def nulls_of(self, head: int, also: str) -> str:
         """The nulls of a head: those of the matches that didn't go."""
         null = self.heads.nulls[head]
         variables = self.script.rules[null.rule].exported
         gone = [part.table for part in self.parts if head in part.before and not part.is_cover]
-        where = " WHERE 1 = 1" + also + "".join(f" AND NOT EXISTS (SELECT 1 FROM {table} AS g WHERE g.u = {code(head, 'm.place')})" for table in gone)
-        source, variable, value = f"{matches_of(self.script.inserts, null.rule)} AS m", quoted(f"x{variables[0]}"), escaped("m.c0")
+        here = code(head, "m.place")
+        where = " WHERE 1 = 1" + also + "".join(f" AND NOT EXISTS (SELECT 1 FROM {table} AS g WHERE g.u = {here})"
+                                                for table in gone)
+        source = f"{matches_of(self.script.inserts, null.rule)} AS m"
+        variable, value = quoted(f"x{variables[0]}"), escaped("m.c0")
         if len(variables) > 1:
             listed = ", ".join(f"({column}, 'x{one}')" for column, one in enumerate(variables))
             source += f" CROSS JOIN (VALUES {listed}) AS v"
@@ -96,7 +102,8 @@ class Writer:
     def fold(self, part: Part) -> str:
         """The nulls that went, with what they became."""
         value = self.names.cell("g.c", "g.n", part.texts, part.after)
-        return f"SELECT {self.names.column(self.names.null('g.u', part.before), 'null')}, {self.names.column(value, 'value')} FROM {part.table} AS g"
+        null = self.names.null("g.u", part.before)
+        return f"SELECT {self.names.column(null, 'null')}, {self.names.column(value, 'value')} FROM {part.table} AS g"
 
 
 def matches_of(inserts: Sequence[Insert], rule: int) -> str:
@@ -107,6 +114,3 @@ def matches_of(inserts: Sequence[Insert], rule: int) -> str:
 def nothing(*names: str) -> str:
     """A query without rows."""
     return "SELECT " + ", ".join(f"CAST('' AS text) AS \"{name}\"" for name in names) + " WHERE 1 = 0"
-
-
-__all__ = ["Names", "Null", "Writer"]

@@ -1,0 +1,255 @@
+"""clio-sql in PostgreSQL: what it leaves alone, what it leaves behind, and how it ends if something goes wrong."""
+import contextlib
+import os
+import signal
+import subprocess
+import sys
+import time
+import unittest
+
+from server import started
+from trial import PROGRAM, TOOLS, Trial
+
+from clio_tools.csv import read_table
+from clio_tools.databases.postgres import Session
+
+TWO = """mapping 1;
+source { set a { k, x; } set b { k, y; } }
+target { set t { k, x, y; key (k); } set u { x, z; } }
+rule a(k, x) -> t(k, x, p), u(x, q);
+rule b(k, y) -> t(k, o, y);
+"""
+KEPT = contextlib.ExitStack()
+SERVER = None
+
+
+def setUpModule():
+    global SERVER
+    SERVER = KEPT.enter_context(started())
+
+
+def tearDownModule():
+    KEPT.close()
+
+
+class Server(Trial):
+    """A database with two source tables."""
+
+    def setUp(self):
+        super().setUp()
+        os.symlink(PROGRAM, self.folder / "clio")
+        path = os.environ["PATH"]
+        self.addCleanup(os.environ.__setitem__, "PATH", path)
+        os.environ["PATH"] = f"{self.folder}:{path}"
+        self.place = SERVER.place[0]
+        self.session = Session(self.place, client_min_messages="error")
+        self.addCleanup(self.session.close)
+        self.session.run("DROP SCHEMA IF EXISTS source, target, clio CASCADE; DROP VIEW IF EXISTS v; CREATE SCHEMA source;"
+                         "CREATE TABLE source.a (k text, x text); CREATE TABLE source.b (k text, y text);"
+                         "INSERT INTO source.a VALUES ('1', 'one'), ('2', '?two'); INSERT INTO source.b VALUES ('1', 'uno'), ('3', '')")
+        self.file("mapping.clio", TWO)
+
+    def made(self, *words):
+        """What clio-sql prints, and says, if it ends with 0."""
+        status, out, said = self.tool("clio-sql", "postgres", *words, self.place)
+        self.assertEqual(status, 0, said)
+        return out, said
+
+    def target(self):
+        """The rows of all tables."""
+        return [sorted(self.session.rows(f"SELECT * FROM target.{name}")) for name in ("t", "u", "nulls", "fold")]
+
+    def schemas(self):
+        """The schemas that runs leave behind."""
+        return self.session.column("SELECT nspname FROM pg_namespace WHERE nspname LIKE 'clio%'")
+
+    def begun(self, *words):
+        """A run that was begun in the background."""
+        run = subprocess.Popen([sys.executable, "-B", TOOLS / "clio-sql", "postgres", *words, self.place], cwd=self.folder, stdout=subprocess.DEVNULL,
+                               stderr=subprocess.PIPE, text=True)
+        self.addCleanup(run.stderr.close)
+        return run
+
+    def wait_until(self, query):
+        """Waits until a query answers true."""
+        end = time.monotonic() + 120
+        while self.session.value(query) != "t":
+            self.assertLess(time.monotonic(), end, query)
+            time.sleep(0.1)
+
+
+class Whole(Server):
+    """The target changes whole, or not at all."""
+
+    def test_equal_to_clio(self):
+        for words in [], ["--sessions", "3"], ["--core"], ["--core", "--sessions", "2"]:
+            for name, columns in ("a", "kx"), ("b", "ky"):
+                rows = "".join(f"{k},{x}\n" for k, x in self.session.rows(f"SELECT * FROM source.{name}"))
+                self.file(f"{name}.csv", f"{','.join(columns)}\n{rows}")
+            self.made(*words)
+            self.assertEqual(self.clio("exchange", *(word for word in words if word == "--core"))[0], 0)
+            columns = {"t": list("kxy"), "u": list("xz"), "nulls": ["null", "variable", "value"], "fold": ["null", "value"]}
+            written = [sorted(map(tuple, read_table(self.folder / "out" / f"{name}.csv", listed))) for name, listed in columns.items()]
+            self.assertEqual(self.target(), written)
+            self.assertEqual(self.schemas(), [])
+
+    def test_a_schema_of_others_stays(self):
+        self.session.run("CREATE SCHEMA clio; CREATE TABLE clio.mine AS SELECT 1 AS one; CREATE VIEW public.v AS SELECT * FROM clio.mine")
+        self.made()
+        self.made("--sessions", "2")
+        self.assertEqual(self.session.value("SELECT one FROM public.v"), "1")
+        self.session.run("DROP SCHEMA clio CASCADE")
+
+    def test_what_hangs_on_the_target_goes_on(self):
+        self.made()
+        self.session.run("CREATE VIEW v AS SELECT x FROM target.u; CREATE INDEX i ON target.u (x); CREATE TABLE target.mine AS SELECT 1 AS one;"
+                         "UPDATE source.a SET x = 'new' WHERE k = '1'")
+        for words in [], ["--sessions", "2"]:
+            self.made(*words)
+            self.assertEqual(sorted(self.session.column("SELECT * FROM v")), ["??two", "new"])
+            self.assertEqual(self.session.value("SELECT count(*) FROM pg_indexes WHERE schemaname = 'target'"), "1")
+            self.assertEqual(self.session.value("SELECT one FROM target.mine"), "1")
+        before = self.target()
+        self.file("mapping.clio", TWO.replace("u { x, z; }", "u { x, w; }"))
+        self.refused("clio-sql", "postgres", self.place, why="something hangs on target.u, which is to have other columns now")
+        self.assertEqual(self.target(), before)
+
+    def test_a_table_of_others_is_refused(self):
+        self.session.run("CREATE SCHEMA target; CREATE TABLE target.u AS SELECT 'mine' AS mine")
+        self.refused("clio-sql", "postgres", self.place, why="target.u is there")
+        self.assertEqual(self.session.rows("SELECT * FROM target.u"), [("mine",)])
+        self.assertEqual(self.session.column("SELECT tablename FROM pg_tables WHERE schemaname = 'target'"), ["u"])
+
+    def test_a_clash_leaves_the_target(self):
+        self.made()
+        before = self.target()
+        for one, other in ("a\n-- clio-sql: done --\nb", "c"), ("\x1b[31m", "d"), ("a", 'b"\\'):
+            self.session.run("DELETE FROM source.a WHERE k = '1'")
+            self.session.run("INSERT INTO source.a VALUES ('1', %s), ('1', %s)", one, other)
+            for words in [], ["--sessions", "2"]:
+                status, out, said = self.tool("clio-sql", "postgres", *words, self.place)
+                self.assertEqual((status, out), (3, ""), said)
+                self.assertIn("clash: table t, key (k): ", said)
+                self.assertNotIn("\x1b", said)
+                self.assertEqual((self.target(), self.schemas()), (before, []))
+
+
+class Interrupted(Server):
+    """Runs that end before their end."""
+
+    def setUp(self):
+        super().setUp()
+        self.made()
+        self.before = self.target()
+        self.session.run("INSERT INTO source.a SELECT 'many' || i, 'x' || i FROM generate_series(1, 3000) AS i")
+        self.reader = Session(self.place)
+        self.addCleanup(self.reader.close)
+        self.reader.run("BEGIN; LOCK TABLE target.nulls IN ACCESS SHARE MODE")  # the run waits for it at its end
+
+    def waits(self):
+        """Waits until the run waits for the reader."""
+        self.wait_until("SELECT EXISTS (SELECT 1 FROM pg_locks WHERE NOT granted)")
+
+    def left(self):
+        """Nothing of the run is left."""
+        self.reader.run("ROLLBACK")
+        self.wait_until("SELECT NOT EXISTS (SELECT 1 FROM pg_locks WHERE locktype = 'advisory')")
+        self.assertEqual(self.target(), self.before)
+
+    def test_interrupted(self):
+        for words, number, status in ([], signal.SIGINT, 130), (["--sessions", "2"], signal.SIGINT, 130), ([], signal.SIGTERM, 143):
+            run = self.begun(*words)
+            self.waits()
+            run.send_signal(number)
+            self.assertEqual(run.wait(60), status, run.stderr.read())
+            self.left()
+            self.assertEqual(self.schemas(), [])
+            self.reader.run("BEGIN; LOCK TABLE target.nulls IN ACCESS SHARE MODE")
+
+    def test_killed(self):
+        for words in [], ["--sessions", "2"]:
+            run = self.begun(*words)
+            self.waits()
+            run.kill()
+            run.wait(60)
+            self.left()
+            self.reader.run("BEGIN; LOCK TABLE target.nulls IN ACCESS SHARE MODE")
+        self.reader.run("ROLLBACK")
+        self.made()  # which drops what the killed run had to leave
+        self.assertEqual(self.schemas(), [])
+        self.assertEqual(len(self.target()[1]), 3002)
+
+    def test_a_second_run_is_refused(self):
+        run = self.begun()
+        self.waits()
+        self.refused("clio-sql", "postgres", self.place, why="another run of clio-sql is under way in this database")
+        self.reader.run("ROLLBACK")
+        self.assertEqual(run.wait(60), 0)
+        self.assertEqual(len(self.target()[1]), 3002)
+
+    def test_a_lost_connection(self):
+        run = self.begun()
+        self.waits()
+        self.session.run("SELECT pg_terminate_backend(pid) FROM pg_locks WHERE NOT granted")
+        self.assertEqual(run.wait(60), 2)
+        said = run.stderr.read()
+        self.assertIn("; the target is as it was", said)
+        self.assertTrue("the server was stopped" in said or "the connection is lost" in said, said)
+        self.left()
+
+    def test_one_state_of_the_source(self):
+        self.reader.run("ROLLBACK")
+        for words in [], ["--sessions", "2"]:
+            self.session.run("DELETE FROM source.a WHERE k LIKE 'more%'")
+            self.reader.run("BEGIN; LOCK TABLE source.b IN ACCESS EXCLUSIVE MODE; INSERT INTO source.b SELECT 'more' || i, 'y' FROM generate_series(1, 50) AS i")
+            run = self.begun(*words)  # which reads a, and waits for b
+            self.waits()
+            self.reader.run("INSERT INTO source.a SELECT 'more' || i, 'z' FROM generate_series(1, 50) AS i; COMMIT")
+            self.assertEqual(run.wait(60), 0, run.stderr.read())
+            self.assertEqual(self.session.value("SELECT count(*) FROM target.t WHERE k LIKE 'more%'"), "0")
+            self.session.run("DELETE FROM source.b WHERE k LIKE 'more%'")
+
+
+class Secrets(Server):
+    def test_no_password_is_told(self):
+        for connection in f"{self.place} password=TOPSECRET dbname=none", "host=x passwd=TOPSECRET", "password=TOP SECRET":
+            status, out, said = self.tool("clio-sql", "postgres", connection)
+            self.assertEqual((status, out), (2, ""))
+            self.assertNotIn("SECRET", said)
+
+    def test_no_password_is_logged(self):
+        for statement in "ALTER SYSTEM SET log_statement = 'all'", "SELECT pg_reload_conf()":
+            self.session.run(statement)
+        for statement in "SELECT pg_reload_conf()", "ALTER SYSTEM RESET log_statement":  # the last is done first
+            self.addCleanup(self.session.run, statement)
+        self.session.run("DROP DATABASE IF EXISTS part")
+        self.session.run("CREATE DATABASE part")
+        self.file("servers.txt", f"{self.place.replace('dbname=postgres', 'dbname=part')} password=TOPSECRET\n")
+        self.session.run("DROP SCHEMA source CASCADE")
+        self.made("--servers", "servers.txt", "--source")
+        self.session.run("INSERT INTO source.a VALUES ('1', 'one')")
+        out, _ = self.made("--servers", "servers.txt")
+        self.assertEqual(out, "t 1\nu 1\nnulls 4\nfold 0\n")
+        said = (SERVER.base / "log").read_text(encoding="utf-8")
+        self.assertIn("CREATE FOREIGN TABLE", said)
+        self.assertNotIn("TOPSECRET", said)
+        self.session.run("DROP SCHEMA source, target CASCADE; DROP EXTENSION postgres_fdw CASCADE; DROP SCHEMA clio_servers CASCADE")
+        for name in self.schemas():
+            self.session.run(f"DROP SCHEMA {name} CASCADE")
+
+
+class Disk(Server):
+    def test_a_fault_of_the_server_leaves_the_target(self):
+        self.made()
+        before = self.target()
+        self.session.run("ALTER DATABASE postgres SET temp_file_limit = 0")  # as a full disk, for what is sorted
+        self.addCleanup(self.session.run, "ALTER DATABASE postgres RESET ALL")
+        self.session.run("ALTER DATABASE postgres SET work_mem = '64kB'; INSERT INTO source.a SELECT 'many' || i, 'x' || i FROM generate_series(1, 20000) AS i")
+        self.refused("clio-sql", "postgres", self.place, why="the target is as it was")
+        self.assertEqual((self.target(), self.schemas()), (before, []))
+
+
+if __name__ == "__main__":
+    unittest.main()
+
+
