@@ -82,6 +82,129 @@ class Ids(Trial):
         self.printed("clio-ids", "ids.db")
         self.assertEqual(self.customers()["ann"], before["ann"])
 
+    def test_order_of_another(self):
+        """Order 2 goes from Bob to Cyd and back: by a rule it is known too, but the key of the customer alone decides."""
+        mapping = """mapping 1;
+            source { set orders { id, email; } set item { n, s; } }
+            target {
+              set sale { n, c; key (n); ref (c) -> customer (cid); }
+              set customer { cid, email; key (cid); key (email); }
+              set sold { n, s; ref (n) -> sale (n); }
+            }
+            rule orders(n, e) -> sale(n, c), customer(c, e);
+            rule item(n, s) -> sold(n, s);"""
+        found = []
+        for second in ["bob"], ["cyd"], ["bob"], ["cyd", "bob"]:
+            orders = [["1", "ann"], *([f"{2 + place}", name] for place, name in enumerate(second))]
+            self.exchange(mapping, orders=[["id", "email"], *orders], item=[["n", "s"], ["1", "shirt"], ["2", "hat"]])
+            found.append(self.printed("clio-ids", "ids.db"))
+            customers = {email: cid for cid, email in self.table("customer", ["cid", "email"])}
+            self.assertEqual(customers, {name: {"ann": "1", "bob": "2", "cyd": "3"}[name] for _, name in orders})
+        self.assertEqual(found, ["known 0\nnew 2\nchanged 0\n",
+                                 'known 1\nnew 1\nchanged 1\nsale.c of (n) ["2"]: 2 is now 3\n',
+                                 'known 2\nnew 0\nchanged 1\nsale.c of (n) ["2"]: 3 is now 2\n',
+                                 'known 3\nnew 0\nchanged 1\nsale.c of (n) ["2"]: 2 is now 3\n'])
+
+    def test_delivery_elsewhere(self):
+        """A delivery whose address changes has another address; the number of the old one stays its own."""
+        mapping = """mapping 1;
+            source { set sent { id, street, town; } set parcel { id, what; } }
+            target {
+              set delivery { id, place; key (id); ref (place) -> place (pid); }
+              set place { pid, street, town; key (pid); key (street, town); }
+              set content { id, what; ref (id) -> delivery (id); }
+            }
+            rule sent(i, s, t) -> delivery(i, p), place(p, s, t);
+            rule parcel(i, w) -> content(i, w);"""
+        for town, number in ("Paris", "1"), ("Portland", "2"), ("Paris", "1"):
+            self.exchange(mapping, sent=[["id", "street", "town"], ["7", "Main", town]], parcel=[["id", "what"], ["7", "tea"]])
+            self.printed("clio-ids", "ids.db")
+            self.assertEqual(self.table("place", ["pid", "street", "town"]), [[number, "Main", town]])
+            self.assertEqual(self.table("delivery", ["id", "place"]), [["7", number]])
+
+    def test_two_keys(self):
+        """The first key that is known decides; a value that another thing had last is not one's own any more."""
+        mapping = "mapping 1; source { set a { x, y; } } target { set t { id, x, y; key (id); key (x); key (y); } } rule a(x, y) -> t(i, x, y);"
+        steps = [([("a", "1")], {("a", "1"): "1"}), ([("b", "1")], {("b", "1"): "1"}), ([("b", "1"), ("a", "2")], {("b", "1"): "1", ("a", "2"): "2"}),
+                 ([("a", "1"), ("b", "2")], {("a", "1"): "2", ("b", "2"): "1"})]
+        for rows, wanted in steps:
+            self.exchange(mapping, a=[["x", "y"], *map(list, rows)])
+            said = self.printed("clio-ids", "ids.db")
+            self.assertEqual({(x, y): number for number, x, y in self.table("t", ["id", "x", "y"])}, wanted)
+        self.assertIn('changed 2\n', said)
+        self.assertIn('t.id of (y) ["1"]: 1 is now 2\n', said)
+
+    def test_key_becomes_known(self):
+        """What was known by a rule alone keeps its number when its key becomes known."""
+        mapping = """mapping 1; source { set a { n; } set b { n, x; } }
+            target { set t { n, id; key (n); ref (id) -> u (id); } set u { id, x; key (id); key (x); } }
+            rule a(n) -> t(n, i), u(i, x); rule b(n, x) -> t(n, i), u(i, x);"""
+        self.exchange(mapping, a=[["n"], ["1"], ["2"]], b=[["n", "x"]])
+        self.printed("clio-ids", "ids.db")
+        before = dict(self.table("t", ["n", "id"]))
+        self.exchange(mapping, a=[["n"], ["0"], ["1"], ["2"]], b=[["n", "x"], ["1", "p"]])
+        self.printed("clio-ids", "ids.db")
+        after = dict(self.table("t", ["n", "id"]))
+        self.assertEqual({n: after[n] for n in before}, before)
+        self.assertEqual(len(set(after.values())), 3)
+
+    def test_damaged(self):
+        """A crosswalk that something else has changed is refused, with what is wrong, and nothing is changed."""
+        self.sales(["1", "ann", ""], ["2", "bob", ""])
+        self.printed("clio-ids", "ids.db")
+        good = (self.folder / "ids.db").read_bytes()
+        for change, why in [("UPDATE next SET number = 9223372036854775807", "the next number is 9223372036854775807"),
+                            ("UPDATE next SET number = 'x'", "the next number is 'x'"), ("DELETE FROM next", "the table next has 0 rows"),
+                            ("UPDATE name SET number = 'x'", "has the number 'x'"), ("UPDATE name SET number = 1", "which are of two things"),
+                            ("UPDATE name SET number = 77", "has the number 77"), ("UPDATE name SET text = x'00'", "is not as clio-ids writes it"),
+                            ("UPDATE name SET kind = 99", "is not as clio-ids writes it"), ("DROP TABLE term", "other tables"),
+                            ("UPDATE numbered SET is_numbered = 'x'", "is marked 'x'"), ("UPDATE written SET digest = 'x'", "the digest of"),
+                            ("UPDATE kind SET key_columns = '['", "is not as clio-ids writes it")]:
+            with self.subTest(change):
+                self.file("ids.db", good)
+                base = sqlite3.connect(self.folder / "ids.db")
+                base.executescript(change)
+                base.close()
+                changed = (self.folder / "ids.db").read_bytes()
+                self.sales(["1", "ann", ""])
+                self.refused("clio-ids", "ids.db", why=why)
+                self.assertEqual((self.folder / "ids.db").read_bytes(), changed)
+        self.file("ids.db", good[:len(good) // 2])
+        self.refused("clio-ids", "ids.db", why="ids.db")
+
+    def test_links(self):
+        """A link or a pipe in the place of the crosswalk is refused, one in the place of a file is never written through."""
+        self.sales(["1", "ann", ""])
+        victim = self.file("victim", "mine")
+        os.symlink("victim", self.folder / "ids.db")
+        self.refused("clio-ids", "ids.db", why="ids.db is a link")
+        os.unlink(self.folder / "ids.db")
+        os.mkfifo(self.folder / "ids.db")
+        self.refused("clio-ids", "ids.db", why="ids.db is a pipe")
+        os.unlink(self.folder / "ids.db")
+        for name in ".customer.csv.new", ".nulls.csv.new":
+            os.symlink("../victim", self.folder / "out" / name)
+        os.rename(self.folder / "out/customer.csv", self.folder / "elsewhere.csv")
+        os.symlink("../elsewhere.csv", self.folder / "out/customer.csv")
+        before = (self.folder / "elsewhere.csv").read_bytes()
+        self.printed("clio-ids", "ids.db")
+        self.assertEqual(victim.read_text(), "mine")
+        self.assertEqual((self.folder / "elsewhere.csv").read_bytes(), before)
+        self.assertFalse((self.folder / "out/customer.csv").is_symlink())
+        os.rename(self.folder / "out", self.folder / "other")
+        os.symlink("other", self.folder / "out")
+        self.refused("clio-ids", "ids.db", why="out is a link to other")
+
+    def test_second_run(self):
+        """While one run works on a crosswalk, a second one is refused."""
+        self.sales(["1", "ann", ""])
+        self.printed("clio-ids", "ids.db")
+        self.sales(["1", "ann", ""])
+        base = sqlite3.connect(self.folder / "ids.db", isolation_level=None)
+        base.execute("BEGIN IMMEDIATE")
+        self.refused("clio-ids", "ids.db", why="database is locked: another run works on it")
+        base.close()
+
     def test_other_mapping(self):
         """A rule before the others changes the names of all nulls, and no number."""
         self.sales(["1", "ann", ""], ["2", "bob", ""])

@@ -6,8 +6,12 @@ never closed runs to the end of the file. Fields may be of any length and hold a
 """
 import csv
 import io
+import os
+import pathlib
+from collections.abc import Iterable
 
 from clio_tools.program import Refused, counted
+from clio_tools.safe_files import replaced
 
 MARK = b"\xef\xbb\xbf"
 csv.field_size_limit(2**31 - 1)
@@ -116,10 +120,10 @@ def field_text(field, alone):
     return field
 
 
-def write_table(path, columns, rows):
-    """Writes a file as clio reads it, and gives the number of its rows."""
+def write_table(path: str | os.PathLike[str], columns: list[str], rows: Iterable[list[str]]) -> int:
+    """Writes a file as clio reads it, which takes its place when it is whole, and gives the number of its rows."""
     count = 0
-    with open(path, "w", newline="", encoding="utf-8") as file:
+    with replaced(pathlib.Path(path)) as file:
         file.write(record_text(columns))
         for count, row in enumerate(rows, 1):
             file.write(record_text(row))

@@ -1,10 +1,10 @@
 """The files that a side reads, written into a folder."""
 import json
-import os
 import pathlib
 
 from clio_tools.csv import read_table, record_text
 from clio_tools.program import Refused
+from clio_tools.safe_files import replaced
 
 MOST_CELLS = 4_000_000
 MOST_BYTES = 67_108_864
@@ -22,19 +22,13 @@ class Written:
         self.bytes = 0
 
     def _replace(self, name, write):
-        """Writes a file under another name first, so that none is ever cut."""
+        """Writes a file, which takes its place when it is whole."""
         path = self.folder / name
         if path.resolve() in self.sources:
             raise Refused(f"{path} is read itself: write into another folder")
-        part = self.folder / (name + ".part")
-        try:
-            with open(part, "w", newline="", encoding="utf-8") as file:
-                write(file)
-            self.bytes += part.stat().st_size
-            os.replace(part, path)
-        except BaseException:
-            part.unlink(missing_ok=True)
-            raise
+        with replaced(path) as file:
+            write(file)
+        self.bytes += path.stat().st_size
 
     def table(self, table, rows, order):
         """Writes a table as CSV, with its columns in this order; NULL is the empty text."""

@@ -22,11 +22,12 @@ import argparse
 import pathlib
 
 from clio_tools.draft import postgres, sqlite
-from clio_tools.csv import record_text
+from clio_tools.csv import write_table
 from clio_tools.program import Refused, run
 from clio_tools.draft.model import Side, find_set
 from clio_tools.draft.names import shown
 from clio_tools.mapping.text import read_sets
+from clio_tools.safe_files import check_folder
 
 
 def words_of(words):
@@ -37,7 +38,7 @@ def words_of(words):
     parser.add_argument("schema", nargs="?", default="public", metavar="SCHEMA")
     parser.add_argument("--surrogate", action="append", default=[], metavar="SET.COLUMN", help="a column whose values become nulls")
     parser.add_argument("--mapping", default="mapping.clio", metavar="FILE")
-    parser.add_argument("--into", default="given", metavar="FOLDER")
+    parser.add_argument("--into", metavar="FOLDER")
     given = parser.parse_args(words)
     if given.kind == "sqlite" and given.schema != "public":
         parser.error("an SQLite file has no schema")
@@ -109,14 +110,14 @@ def work(words):
     side = Side("target", base.tables())
     tables = [find_set(side, one.name) for one in sets]
     places = [places_of(table, one) for table, one in zip(tables, sets)]
-    folder = pathlib.Path(given.into)
+    folder = pathlib.Path(given.into or "given")
+    if not given.into:
+        check_folder(folder)
     folder.mkdir(parents=True, exist_ok=True)
     pairs = base.all_rows(tables) if given.kind == "postgres" else ((table, base.rows(table)) for table in tables)
     for one, listed, (_, rows) in zip(sets, places, pairs):
-        with open(folder / f"{one.name}.csv", "w", newline="", encoding="utf-8") as file:
-            file.write(record_text(one.columns))
-            for row in rows:
-                file.write(record_text([nulls.value(row[place], domains.of.get((one.name, column))) for place, column in zip(listed, one.columns)]))
+        of = [(place, domains.of.get((one.name, column))) for place, column in zip(listed, one.columns)]
+        write_table(folder / f"{one.name}.csv", one.columns, ([nulls.value(row[place], domain) for place, domain in of] for row in rows))
 
 
 def main():

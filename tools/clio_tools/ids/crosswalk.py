@@ -16,7 +16,6 @@ Beside it are tables of the run alone, which SQLite keeps in a file of its own, 
     told       the terms of nulls
     reserved   the numbers that are texts of the target
 """
-import contextlib
 import hashlib
 import json
 import pathlib
@@ -68,7 +67,7 @@ KEEP_NAMES = """INSERT INTO main.name SELECT a.kind, a.text, n.number, a.surenes
  LEFT JOIN kept AS k ON k.line = a.line WHERE k.number IS NOT n.number OR k.sureness IS NOT a.sureness
   OR EXISTS (SELECT 1 FROM moved AS m WHERE m.kind = a.kind AND m.number = n.number)
  ORDER BY a.kind, a.text ON CONFLICT (kind, text) DO UPDATE SET number = excluded.number, sureness = excluded.sureness"""
-KEEP_TERMS = f"""INSERT INTO main.term SELECT t.digest, n.number, t.sureness FROM told AS t JOIN number AS n ON n.null_number = t.null_number
+KEEP_TERMS = """INSERT INTO main.term SELECT t.digest, n.number, t.sureness FROM told AS t JOIN number AS n ON n.null_number = t.null_number
  WHERE is_loose(t.null_number) ORDER BY t.digest, t.sureness DESC, t.null_number DESC, t.line DESC
  ON CONFLICT (digest) DO UPDATE SET number = excluded.number, sureness = excluded.sureness"""
 CHANGES = """ FROM kept AS k JOIN asked AS a ON a.line = k.line JOIN number AS n ON n.null_number = a.null_number JOIN main.kind AS d ON d.kind = a.kind
@@ -106,8 +105,8 @@ class Crosswalk:
             self.check()
         except sqlite3.Error as error:
             raise Refused(f"{path}: {error}{in_use(error)}") from None
-        self.kinds = {Kind(name, column, tuple(json.loads(key))): kind for kind, name, column, key
-                      in self.base.execute("SELECT kind, set_name, column_name, key_columns FROM kind")}
+        self.kinds: dict[Kind, int] = {Kind(name, column, tuple(json.loads(key))): kind for kind, name, column, key
+                                       in self.base.execute("SELECT kind, set_name, column_name, key_columns FROM kind")}
 
     def make(self) -> None:
         """The tables of an empty file."""
@@ -136,11 +135,10 @@ class Crosswalk:
 
     def kind(self, kind: Kind, is_key: bool) -> int:
         """The number of a kind of names; whether its column is a key by itself is kept."""
-        if kind not in self.kinds:
-            self.kinds[kind] = len(self.kinds) + 1
+        number = self.kinds.setdefault(kind, len(self.kinds) + 1)
         self.base.execute("INSERT INTO kind VALUES (?, ?, ?, ?, ?) ON CONFLICT (kind) DO UPDATE SET is_key = excluded.is_key",
-                          (self.kinds[kind], kind.set, kind.column, json.dumps(kind.key), int(is_key)))
-        return self.kinds[kind]
+                          (number, kind.set, kind.column, json.dumps(kind.key), int(is_key)))
+        return number
 
     def hinting(self) -> list[Kind]:
         """The kinds that have names OTHER."""
@@ -284,8 +282,3 @@ def digest_of(text: str) -> bytes:
     """The SHA-256 of a text."""
     return hashlib.sha256(text.encode("utf-8", "surrogatepass")).digest()
 
-
-def close_quietly(base: sqlite3.Connection) -> None:
-    """Closes a file of SQLite, whatever it says."""
-    with contextlib.suppress(sqlite3.Error):
-        base.close()

@@ -1,11 +1,10 @@
 """By which keys the rows of a table can be known: keys of texts, in which the number of a thing stands for its null."""
 from array import array
 from collections.abc import Callable
-from json.encoder import encode_basestring_ascii as json_text
 from typing import NamedTuple
 
 from clio_tools.ids.crosswalk import LONGEST, Kind, text_of_key
-from clio_tools.ids.nulls import NONE
+from clio_tools.ids.nulls import NONE, json_text
 from clio_tools.mapping.text import Set
 
 TextOfRow = Callable[[int, list[str]], str | None]

@@ -1,7 +1,8 @@
 """The nulls of a target by number: each has the number of its first appearance, from 0."""
+import json
 import re
 from array import array
-from collections.abc import Iterator
+from collections.abc import Callable, Iterator
 
 from clio_tools.program import Refused
 
@@ -9,6 +10,7 @@ NULL = re.compile(r"\?(0|[1-9][0-9]{0,18})\.(0|[1-9][0-9]{0,18})\.(0|[1-9][0-9]{
 AGAIN = "run clio exchange again"
 BLOCK = 256  # places that are kept together
 NONE = -1
+json_text: Callable[[str], str] = vars(json.encoder)["encode_basestring_ascii"]  # a text as JSON has it
 
 
 def parts_of(text: str) -> tuple[str, str, str] | None:

@@ -7,10 +7,9 @@ import pathlib
 import sqlite3
 from array import array
 from collections.abc import Iterable, Iterator
-from json.encoder import encode_basestring_ascii as json_text
 
 from clio_tools.csv import read_table
-from clio_tools.ids.nulls import AGAIN, NONE, NULL, Nulls, parts_of
+from clio_tools.ids.nulls import AGAIN, NONE, NULL, Nulls, json_text, parts_of
 from clio_tools.ids.sureness import FOLDED, RULE
 from clio_tools.ids.terms import Terms
 from clio_tools.mapping.text import Set
@@ -105,7 +104,8 @@ class Target:
 
 def groups(rows: Iterable[list[str]]) -> Iterator[tuple[str, Pairs]]:
     """The rows of one null after the other: its name, and the rest of its rows."""
-    last, pairs = None, []
+    last: str | None = None
+    pairs: Pairs = []
     for null, variable, value in rows:
         if null != last:
             if last is not None:

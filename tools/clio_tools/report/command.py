@@ -18,6 +18,7 @@ import sys
 
 from clio_tools.csv import write_table
 from clio_tools.program import Refused, run
+from clio_tools.safe_files import check_folder
 from clio_tools.report.figures import Figures
 from clio_tools.report import sections
 from clio_tools.report.page import whole
@@ -29,6 +30,7 @@ USAGE = "usage: clio-report [FOLDER] > report.html; the manual is man clio-repor
 
 def write_not_used(figures):
     """Writes the rows that no rule used, a file for each set; answers the files."""
+    check_folder(pathlib.Path("out"))
     written = {}
     for number, one in enumerate(figures.source):
         path = pathlib.Path("out", f"not-used-{one.table.name}.csv")

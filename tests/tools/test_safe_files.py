@@ -1,0 +1,111 @@
+"""Files that take their place whole or not at all, and are never written through a link or a pipe."""
+import os
+import pathlib
+import sqlite3
+import stat
+
+from trial import Trial
+
+from clio_tools.program import Refused
+from clio_tools.safe_files import Fresh, replaced
+
+
+class SafeFiles(Trial):
+    def names(self) -> list[str]:
+        return sorted(path.name for path in self.folder.iterdir())
+
+    def test_replaced(self) -> None:
+        place = self.file("a", "old")
+        place.chmod(0o640)
+        with replaced(place) as file:
+            file.write("new")
+            self.assertEqual(place.read_text(), "old")
+        self.assertEqual((place.read_text(), stat.S_IMODE(place.stat().st_mode), self.names()), ("new", 0o640, ["a"]))
+
+    def test_failure(self) -> None:
+        """What fails leaves the old file, and nothing beside it."""
+        place = self.file("a", "old")
+        with self.assertRaises(ValueError), replaced(place) as file:
+            file.write("new")
+            raise ValueError
+        self.assertEqual((place.read_text(), self.names()), ("old", ["a"]))
+
+    def test_link(self) -> None:
+        """A link is replaced; what it leads to stays as it was, also if it isn't there."""
+        victim = self.file("victim", "mine")
+        for goal in "victim", "nothing":
+            os.symlink(goal, self.folder / "a")
+            with replaced(self.folder / "a") as file:
+                file.write("new")
+            self.assertFalse((self.folder / "a").is_symlink())
+            self.assertEqual(((self.folder / "a").read_text(), victim.read_text()), ("new", "mine"))
+            (self.folder / "a").unlink()
+        self.assertEqual(self.names(), ["victim"])
+
+    def test_no_file(self) -> None:
+        os.mkfifo(self.folder / "pipe")
+        (self.folder / "folder").mkdir()
+        for name, why in ("pipe", "is a pipe"), ("folder", "is a folder"):
+            with self.assertRaisesRegex(Refused, why):
+                Fresh(self.folder / name)
+        self.assertEqual(self.names(), ["folder", "pipe"])
+
+    def test_names(self) -> None:
+        """Nobody can foresee the name of a file that is being made."""
+        made = [Fresh(self.folder / "a").made for _ in range(2)]
+        self.assertNotEqual(*made)
+        self.assertEqual({path.parent for path in made}, {self.folder})
+
+
+class Tools(Trial):
+    """The tools that write files, with a link and a pipe in the place of one."""
+
+    def links(self, place: str) -> pathlib.Path:
+        victim = self.file("victim", "mine")
+        (self.folder / place).parent.mkdir(exist_ok=True)
+        (self.folder / place).unlink(missing_ok=True)
+        os.symlink(victim, self.folder / place)
+        return victim
+
+    def test_given(self) -> None:
+        self.file("mapping.clio", "mapping 1; source { set s { x; } } target { set t { a; } }")
+        base = sqlite3.connect(self.folder / "b.db")
+        base.executescript("CREATE TABLE t (a); INSERT INTO t VALUES (1);")
+        base.close()
+        victim = self.links("given/t.csv")
+        self.printed("clio-given", "sqlite", "b.db")
+        self.assertEqual((victim.read_text(), (self.folder / "given/t.csv").read_text()), ("mine", "a\n1\n"))
+        (self.folder / "given/t.csv").unlink()
+        os.mkfifo(self.folder / "given/t.csv")
+        self.refused("clio-given", "sqlite", "b.db", why="given/t.csv is a pipe")
+        os.rename(self.folder / "given", self.folder / "other")
+        os.symlink("other", self.folder / "given")
+        self.refused("clio-given", "sqlite", "b.db", why="given is a link to other")
+
+    def test_draft(self) -> None:
+        self.file("in/t.csv", "a\n1\n")
+        for name in "out/t.csv", "out/t.csv.part":
+            victim = self.links(name)
+        self.printed("clio-draft", "csv", "in", "--data", "out")
+        self.assertEqual((victim.read_text(), (self.folder / "out/t.csv").read_text()), ("mine", "a\n1\n"))
+        (self.folder / "out/t.csv").unlink()
+        os.mkfifo(self.folder / "out/t.csv")
+        self.refused("clio-draft", "csv", "in", "--data", "out", why="out/t.csv is a pipe")
+
+    def test_report(self) -> None:
+        self.file("mapping.clio", "mapping 1; source { set s { x; } set u { y; } } target { set t { a; } } rule s(x), u(x) -> t(x);")
+        self.file("s.csv", "x\n1\n2\n")
+        self.file("u.csv", "y\n1\n")
+        self.assertEqual(self.clio("exchange")[0], 0)
+        victim = self.links("out/not-used-s.csv")
+        self.printed("clio-report")
+        self.assertEqual(victim.read_text(), "mine")
+        self.assertFalse((self.folder / "out/not-used-s.csv").is_symlink())
+        os.rename(self.folder / "out", self.folder / "other")
+        os.symlink("other", self.folder / "out")
+        self.refused("clio-report", why="out is a link to other")
+
+
+if __name__ == "__main__":
+    import unittest
+    unittest.main()
