@@ -82,12 +82,12 @@ root_data shapes.nested word h = json_data word h
 -- ---- what is read
 
 read_fits : (P : Program) (c : World) (M : Mapping) → (mapping_stages P).passes c (tt {0}) M → MappingFits P.list P.tests M
-read_fits P c M (text, there, accepted) = accepted_fits P.list P.tests c text M (is_small text there.1) accepted
+read_fits P c M (text, held, accepted) = accepted_fits P.list P.tests c text M (is_small text held.1) accepted
 
 exchange_fits : (P : Program) (mode : Mode) (c : World) (q : Mapping × Exchange) (x : (exchanges P mode).passes c (tt {0}) q)
     → MappingFits P.list P.tests (in_world P mode c q x).mapping
-exchange_fits P mode c q (M, (text, there, accepted), (pair, (I, source, pair_is), (x, exchange, q_is))) =
-    accepted_fits P.list P.tests c text M (is_small text there.1) accepted
+exchange_fits P mode c q (M, (text, held, accepted), (pair, (I, source, pair_is), (x, exchange, q_is))) =
+    accepted_fits P.list P.tests c text M (is_small text held.1) accepted
 
 member_after : {A : Type 0} (before : List A) (x : A) (after : List A) → x ∈ (before ++ x ∷ after)
 member_after [] x after = here refl
@@ -148,7 +148,7 @@ fronted_word (b ∷ bs) word f w = (f.0, λ c m. elim (from_append bs m) [ inl k
 
 -- the name of a table with this in front: nothing, or a word
 front_data : (front word : List ℕ) → (front ≡ []) ⊎ IsWord front → IsWord word → IsDataName (front ++ csv_name word)
-front_data front word (inl none) h = subst (λ (f : List ℕ). IsDataName (f ++ csv_name word)) (sym none) (csv_data word h)
+front_data front word (inl empty) h = subst (λ (f : List ℕ). IsDataName (f ++ csv_name word)) (sym empty) (csv_data word h)
 front_data front word (inr f) h = (front ++ word, fronted_word front word f h, inl (sym (append_assoc front word (codes ".csv"))))
 
 tables_put : (front : List ℕ) → (front ≡ []) ⊎ IsWord front → (n : ℕ) (ts : List TableOf) (T : List TableRows) (fs : List PrintedFile)
