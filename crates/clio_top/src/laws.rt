@@ -80,8 +80,8 @@ pub fn files_have_own_names()
     ensures { FilesHaveOwnNames }
 {}
 
-/// Each file that a run asks for has a name of a fixed form, and so has each that it puts: whatever its mapping says, none is outside the
-/// folder.
+/// Each file that a run asks for has a name of a fixed form, and so has each that it puts: whatever its mapping says,
+/// none is outside the folder.
 pub fn names_are_of_the_folder()
     ensures read { ReadsByName }
     ensures put { PutsByName }
