@@ -54,7 +54,7 @@ class Place(Protocol):
     def load(self, folder: pathlib.Path) -> None:
         """Loads the source files of a folder."""
 
-    def exchange(self, mapping: Mapping, core: bool) -> None:
+    def exchange(self, core: bool) -> None:
         """Runs clio-sql."""
 
     def rows(self, name: str, columns: list[str]) -> Rows:
@@ -81,10 +81,10 @@ class OneServer:
         for table in tables:
             self.session.run(f'CREATE TABLE source."{table.name}" (' + ", ".join(f'"{column}" text' for column in table.columns) + ")")
 
-    def exchange(self, mapping: Mapping, core: bool) -> None:
+    def exchange(self, core: bool) -> None:
         engine = Engine(self.connection, self.sessions)
         try:
-            exchange(engine, mapping, core, self.sessions)
+            exchange(engine, core, self.sessions)
         finally:
             engine.close()
 
@@ -105,10 +105,10 @@ class SeveralServers(OneServer):
         engine.make_source(tables)
         engine.close()
 
-    def exchange(self, mapping: Mapping, core: bool) -> None:
+    def exchange(self, core: bool) -> None:
         engine = Servers(self.connection, self.lines)
         try:
-            exchange(engine, mapping, core)
+            exchange(engine, core)
         finally:
             engine.close()
 
@@ -125,10 +125,10 @@ class Files:
                 base.execute(f'CREATE TABLE "{table.name}" (' + ", ".join(f'"{column}" TEXT' for column in table.columns) + ")")
                 base.executemany(f'INSERT INTO "{table.name}" VALUES ({", ".join("?" * len(table.columns))})', rows.get(table.name, ()))
 
-    def exchange(self, mapping: Mapping, core: bool) -> None:
+    def exchange(self, core: bool) -> None:
         engine = Sqlite("source.db", "target.db")
         try:
-            exchange(engine, mapping, core)
+            exchange(engine, core)
         finally:
             engine.close()
 
@@ -142,8 +142,6 @@ class Compared:
 
     def __init__(self, place: Place, folder: pathlib.Path, core: bool, case: Any) -> None:
         self.place, self.folder, self.core, self.case = place, folder, core, case
-        self.mapping = Mapping((folder / "mapping.clio").read_text(encoding="utf-8"))
-        self.tables = [*self.mapping.target, Written("nulls", "null", "variable", "value"), Written("fold", "null", "value")]
 
     def by_clio(self) -> int:
         """The status of clio."""
@@ -156,7 +154,7 @@ class Compared:
         said = io.StringIO()
         try:
             with contextlib.redirect_stdout(io.StringIO()), contextlib.redirect_stderr(said):
-                self.place.exchange(self.mapping, self.core)
+                self.place.exchange(self.core)
         except Clash as clash:
             return None, str(clash)
         return {table.name: self.place.rows(table.name, table.columns) for table in self.tables}, said.getvalue()
@@ -166,6 +164,9 @@ class Compared:
         status = self.by_clio()
         if status not in (0, 3):
             return ""
+        self.mapping = Mapping((self.folder / "mapping.clio").read_text(encoding="utf-8"))
+        written_too = [Written("nulls", "null", "variable", "value"), Written("fold", "null", "value")]
+        self.tables = [*self.mapping.target, *written_too]
         tables, said = self.made()
         if (status == 3) != (tables is None):
             raise Differs(f"clio ends with {status}, and clio-sql {'with a clash' if tables is None else 'without one'}")

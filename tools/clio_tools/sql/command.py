@@ -114,12 +114,18 @@ def engine_of(words: argparse.Namespace, teller: Teller) -> Engine:
     return Postgres(words.connection, words.sessions, teller.statement)
 
 
-def exchange(engine: Engine, mapping: Mapping, core: bool, sessions: int = 1, report: Report = silent) -> None:
+def exchange(engine: Engine, core: bool, sessions: int = 1, report: Report = silent) -> None:
     """The whole exchange; prints how many rows each table has, and in core mode whether the target is a core."""
-    ended = Exchange(Work(engine, report), shown(core), mapping, core, sessions).run()
+    script = shown(core)  # what clio refuses ends here as it ends clio
+    ended = Exchange(Work(engine, report), script, mapping_here(), core, sessions).run()
     print("".join(f"{name} {number}\n" for name, number in ended.rows.items()), end="")
     if ended.rest and not engine.is_plan:
         remark(NAME, ended.rest.told())
+
+
+def mapping_here() -> Mapping:
+    """The mapping of this folder."""
+    return Mapping(pathlib.Path("mapping.clio").read_bytes().decode("utf-8", "replace"))
 
 
 def work(given: list[str]) -> None:
@@ -129,11 +135,10 @@ def work(given: list[str]) -> None:
     try:
         engine = engine_of(words, teller)
         try:
-            mapping = Mapping(pathlib.Path("mapping.clio").read_bytes().decode("utf-8", "replace"))
             if isinstance(engine, Servers) and words.source:
-                engine.make_source(mapping.source)
+                engine.make_source(mapping_here().source)
             else:
-                exchange(engine, mapping, words.core, getattr(words, "sessions", 1), teller.step)
+                exchange(engine, words.core, getattr(words, "sessions", 1), teller.step)
         finally:
             engine.close()
     except Clash as clash:
