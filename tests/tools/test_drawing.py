@@ -8,6 +8,7 @@ from collections import Counter
 
 from drawing_cases import cases
 from drawing_trial import differences, draw
+import random_trees
 from random_drawings import tried
 from trial import TIMES, Trial
 
@@ -314,6 +315,11 @@ class Random(Trial):
             with tempfile.TemporaryDirectory() as name:
                 self.assertIsNone(tried(f"gate.{number}", pathlib.Path(name), tally), number)
         self.assertGreater(tally["as SQL says"], 20 * TIMES)
+
+    def test_random_trees_are_copied(self) -> None:
+        for number in range(8 * TIMES):
+            with tempfile.TemporaryDirectory() as name:
+                self.assertIsNone(random_trees.tried(f"gate.{number}", pathlib.Path(name)), number)
 
 
 if __name__ == "__main__":

@@ -63,7 +63,8 @@ class Explained(Trial):
     def test_a_clash_of_two_ways(self) -> None:
         self.file("f.csv", "no,dep,arr\n1,a,b\n")
         self.file("p.csv", "code,city\na,A\nb,B\n")
-        text = f"mapping 1;\n{self.SOURCE}target {{ set leg {{ no, a; key (no); }} }}\nline f.no -> leg.no;\nline p.city -> leg.a;\n"
+        text = (f"mapping 1;\n{self.SOURCE}target {{ set leg {{ no, a; key (no); }} }}\n"
+                "line f.no -> leg.no;\nline p.city -> leg.a;\n")
         said = self.said(text, "exchange")
         self.assertIn(self.HEAD, said)
         self.assertIn("     rows leg from f;\n     line p.city -> leg.a by dep;  // or by arr\n", said)
