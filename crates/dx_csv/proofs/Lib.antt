@@ -11,4 +11,6 @@ pub mod BlankFacts
 pub mod TextsDiffer
 pub mod PlainFacts
 pub mod OneField
+pub mod TextFacts
+mod Refusals
 mod Examples

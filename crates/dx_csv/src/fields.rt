@@ -3,7 +3,7 @@ ghost use Rattle.std.specs.Prelude.{◌≡◌, ◌<◌, ◌++◌, ◌∷◌, [],
 ghost use Rattle.csv.specs.Records.{prev};
 ghost use Rattle.dx_csv.specs.Fields.{HaveFields, HaveOpen, fields_in};
 
-use dx_base::Text;
+use dx_base::{Text, no_number_left};
 use std::alloc::{AllocError, Global};
 use std::marker::Model;
 use std::rc::Rc;
@@ -48,7 +48,7 @@ impl Fields {
             (HaveFields self.new (fields ++ part ∷ [])) }
     {
         let Ok(end) = u32::try_from(self.text.len()) else {
-            return Err(AllocError);
+            return Err(no_number_left(self.text.len() as u64));
         };
         self.ends.push(end)?;
         Ok(())
@@ -59,13 +59,9 @@ impl Fields {
         requires { HaveFields self (fields_in self) }
         ensures { IfOk result (λ texts. texts ≡ fields_in self) }
     {
-        match Rc::new(alloc, self.text) {
-            Ok(buffer) => Ok(Texts {
-                buffer,
-                ends: self.ends,
-            }),
-            Err(_) => Err(AllocError),
-        }
+        let Fields { text, ends } = self;
+        let buffer = Rc::new(alloc, text)?;
+        Ok(Texts { buffer, ends })
     }
 }
 

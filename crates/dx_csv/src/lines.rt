@@ -1,5 +1,5 @@
 // Records as CSV, printed field by field into one buffer.
-ghost use Rattle.std.specs.Prelude.{◌≡◌, ◌<◌, ◌^◌, ◌++◌, ◌∷◌, ◌==◌, [], ℕ, List, OnOk, false, true, length};
+ghost use Rattle.std.specs.Prelude.{◌≡◌, ◌<◌, ◌^◌, ◌++◌, ◌∷◌, ◌==◌, [], ℕ, List, IsUtf8, OnOk, false, true, length};
 ghost use Rattle.std.specs.Fmt.{decimal};
 ghost use Rattle.csv.specs.Writing.{default_writer, escaped, field_text, needs_quotes};
 ghost use Rattle.dx_instance.specs.ValueText.{NullFits, const_text, null_text, value_text_of};
@@ -102,7 +102,8 @@ impl Lines {
     ///
     /// `AllocError` if there is no memory.
     pub fn value(&mut self, value: &Value) -> Result<(), AllocError>
-        ensures { (records : List (List (List ℕ))) (fields : List (List ℕ)) → HavePrinted self.old records fields
+        ensures utf8 { OnOk result (IsUtf8 (value_text_of value.now)) }
+        ensures printed { (records : List (List (List ℕ))) (fields : List (List ℕ)) → HavePrinted self.old records fields
             → OnOk result (HavePrinted self.new records (fields ++ value_text_of value.now ∷ [])) }
     {
         match value {
@@ -163,7 +164,8 @@ impl Lines {
 
     // The text of a null as one field more.
     fn null(&mut self, null: &NullId) -> Result<(), AllocError>
-        ensures { (records : List (List (List ℕ))) (fields : List (List ℕ)) → HavePrinted self.old records fields
+        ensures fits { OnOk result (NullFits null.now) }
+        ensures printed { (records : List (List (List ℕ))) (fields : List (List ℕ)) → HavePrinted self.old records fields
             → OnOk result (HavePrinted self.new records (fields ++ null_text null.now ∷ [])) }
     {
         self.begin_field(false)?;

@@ -1,5 +1,5 @@
 // A table of constants, read from its bytes.
-ghost use Rattle.std.specs.Prelude.{◌≡◌, ◌<◌, ◌-◌, ◌^◌, ◌↔◌, ◌++◌, ◌∷◌, ℕ, List, length, true, false, IsTrue, IfOk, IfErr, IfSome, OnOk, MatchOption};
+ghost use Rattle.std.specs.Prelude.{◌≡◌, ◌<◌, ◌+◌, ◌-◌, ◌^◌, ◌↔◌, ◌++◌, ◌∷◌, [], ℕ, List, length, slice_index_or, true, false, IsTrue, IfOk, IfErr, IfSome, OnOk, MatchOption};
 ghost use Rattle.csv.specs.Records.{fields_of, AllText};
 ghost use Rattle.dx_model.specs.Values.{constants};
 ghost use Rattle.dx_csv.specs.Fields.{AreFields, HaveFields, fields_in};
@@ -10,7 +10,7 @@ use crate::fields::{Fields, Texts};
 use crate::plain::plain_fields;
 use crate::records::Records;
 use csv::ByteRecord;
-use dx_base::{Text, TextMade};
+use dx_base::{Text, TextMade, no_number_left};
 use dx_model::{Row, Value};
 use std::alloc::{AllocError, Global};
 
@@ -71,6 +71,17 @@ fn records_under<'a>(
     Ok(records)
 }
 
+// The field at a place.
+fn field_at(given: &ByteRecord, place: usize) -> &[u8]
+    requires { place < length (fields_of given.now) }
+    ensures { result.now ≡ slice_index_or (fields_of given.now) place [] }
+{
+    match given.get(place) {
+        Some(field) => field,
+        None => unreachable!(),
+    }
+}
+
 // The row of a record's fields, if each is a text.
 fn row_of(alloc: Global, given: &ByteRecord) -> Result<Option<Row>, AllocError>
     ensures text { IfOk result (λ o. MatchOption o (¬ (AllText (fields_of given.now))) (λ row. AllText (fields_of given.now))) }
@@ -78,11 +89,7 @@ fn row_of(alloc: Global, given: &ByteRecord) -> Result<Option<Row>, AllocError>
 {
     let mut row = Row::new(alloc);
     for i in 0..given.len() {
-        let Some(field) = given.get(i) else {
-            // A field is there at each place below `len`, by the clauses of `csv`: the branch spares a proof of it.
-            return Err(AllocError);
-        };
-        match Text::from_bytes(alloc, field) {
+        match Text::from_bytes(alloc, field_at(given, i)) {
             Ok(text) => row.push(Value::Const(text))?,
             Err(TextMade::NotUtf8) => return Ok(None),
             Err(TextMade::Memory) => return Err(AllocError),
@@ -99,16 +106,22 @@ fn push_record(fields: &mut Fields, given: &ByteRecord) -> Result<bool, AllocErr
         → IfOk result (λ whole. whole ≡ true → HaveFields fields.new (old ++ fields_of given.now)) }
 {
     for i in 0..given.len() {
-        let Some(field) = given.get(i) else {
-            // A field is there at each place below `len`, by the clauses of `csv`: the branch spares a proof of it.
-            return Err(AllocError);
-        };
-        let Ok(text) = str::from_utf8(field) else {
+        let Ok(text) = str::from_utf8(field_at(given, i)) else {
             return Ok(false);
         };
         fields.push(text)?;
     }
     Ok(true)
+}
+
+// The number of the next record.
+fn next_number(number: u64) -> Result<u64, AllocError>
+    ensures { IfOk result (λ next. next ≡ number + 1) }
+{
+    match number.checked_add(1) {
+        Some(next) => Ok(next),
+        None => Err(no_number_left(number)),
+    }
 }
 
 // The texts of the fields of the records that are left, and how many records there are.
@@ -122,10 +135,9 @@ fn fields_under(
 {
     let mut record = ByteRecord::new(alloc);
     let mut fields = Fields::new(alloc);
-    for number in 1..u64::MAX {
-        if !records.next(&mut record)? {
-            return Ok(read_texts(alloc, fields, number - 1)?);
-        }
+    let mut number = 0u64;
+    'under: while records.next(&mut record)? {
+        number = next_number(number)?;
         if record.len() != columns.len() {
             return Err(RowFault::Bad(RowKind::Width(number)));
         }
@@ -133,8 +145,7 @@ fn fields_under(
             return Err(RowFault::Bad(RowKind::NotText(number)));
         }
     }
-    // No bytes hold so many records: the loop has a bound so that the number of a record is a `u64`.
-    Err(RowFault::Memory)
+    Ok(read_texts(alloc, fields, number)?)
 }
 
 /// The texts of a table's fields under the header, record by record, and how many records there are. They are read straight
@@ -161,11 +172,11 @@ fn read_texts(alloc: Global, fields: Fields, count: u64) -> Result<(Texts, u32),
     ensures texts { IfOk result (λ read. read.0 ≡ fields_in fields) }
     ensures count { IfOk result (λ read. read.1 ≡ count) }
 {
-    let Ok(count) = u32::try_from(count) else {
-        return Err(AllocError);
+    let Ok(stored) = u32::try_from(count) else {
+        return Err(no_number_left(count));
     };
     let texts = fields.into_texts(alloc)?;
-    Ok((texts, count))
+    Ok((texts, stored))
 }
 
 // The rows of the records that are left.
@@ -175,10 +186,9 @@ fn rows_under(alloc: Global, records: &mut Records, columns: &[Text]) -> Result<
 {
     let mut record = ByteRecord::new(alloc);
     let mut rows = Vec::new(alloc);
-    for number in 1..u64::MAX {
-        if !records.next(&mut record)? {
-            return Ok(rows);
-        }
+    let mut number = 0u64;
+    'under: while records.next(&mut record)? {
+        number = next_number(number)?;
         if record.len() != columns.len() {
             return Err(RowFault::Bad(RowKind::Width(number)));
         }
@@ -187,8 +197,7 @@ fn rows_under(alloc: Global, records: &mut Records, columns: &[Text]) -> Result<
         };
         rows.push(row)?;
     }
-    // No bytes hold so many records: the loop has a bound so that the number of a record is a `u64`.
-    Err(RowFault::Memory)
+    Ok(rows)
 }
 
 /// Reads the rows of a table: a record of the columns, and then for each row a record of the texts of its constants.

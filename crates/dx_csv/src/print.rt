@@ -1,5 +1,6 @@
 // The text of records and of tables.
-ghost use Rattle.std.specs.Prelude.{◌≡◌, ◌<◌, ◌++◌, ◌∷◌, [], ℕ, List, IfOk, OnOk, length, map};
+ghost use Rattle.std.specs.Prelude.{◌≡◌, ◌<◌, ◌++◌, ◌∷◌, [], ℕ, List, IfOk, IsUtf8, OnOk, length, map};
+ghost use Rattle.csv.specs.Records.{AllText};
 ghost use Rattle.dx_instance.specs.Shown.{AreBelow, shown_row};
 ghost use Rattle.dx_instance.specs.Stored.{rows_of, table_at};
 ghost use Rattle.dx_instance.specs.ValueText.{value_text_of};
@@ -16,8 +17,9 @@ const USUAL_BYTES: usize = 8;
 
 // Prints one record more.
 fn print_record(lines: &mut Lines, fields: &[Text]) -> Result<(), AllocError>
-    ensures { (records : List (List (List ℕ))) → HavePrinted lines.old records []
+    ensures printed { (records : List (List (List ℕ))) → HavePrinted lines.old records []
         → OnOk result (HavePrinted lines.new (records ++ fields.now ∷ []) []) }
+    ensures texts { OnOk result (AllText fields.now) }
 {
     for text in fields {
         lines.field(text.bytes())?;
@@ -28,8 +30,9 @@ fn print_record(lines: &mut Lines, fields: &[Text]) -> Result<(), AllocError>
 // Prints a row of numbers as one record more, the texts of the values under them.
 fn print_row(lines: &mut Lines, numbers: &Numbers, row: &[u32]) -> Result<(), AllocError>
     requires { AreBelow (length numbers.now.symbols) row.now }
-    ensures { (records : List (List (List ℕ))) → HavePrinted lines.old records []
+    ensures printed { (records : List (List (List ℕ))) → HavePrinted lines.old records []
         → OnOk result (HavePrinted lines.new (records ++ map value_text_of (shown_row numbers.now.symbols row.now) ∷ []) []) }
+    ensures texts { OnOk result (AllText (map value_text_of (shown_row numbers.now.symbols row.now))) }
 {
     for number in row {
         lines.value(numbers.value(*number))?;
@@ -37,14 +40,14 @@ fn print_row(lines: &mut Lines, numbers: &Numbers, row: &[u32]) -> Result<(), Al
     lines.end()
 }
 
-// The text of these bytes.
+// The text of these bytes, which are UTF-8.
 fn text_of(alloc: Global, bytes: Vec<u8>) -> Result<Text, AllocError>
+    requires { IsUtf8 bytes.items }
     ensures { IfOk result (λ t. t ≡ bytes.items) }
 {
     match String::from_utf8(bytes) {
         Ok(text) => Text::from_string(alloc, text),
-        // The bytes are those of texts and so UTF-8; no clause says it of the bytes of lines.
-        Err(_) => Err(AllocError),
+        Err(_) => unreachable!(),
     }
 }
 
@@ -66,7 +69,8 @@ pub fn print_records(alloc: Global, records: &[Items<Text>]) -> Result<Text, All
 ///
 /// `AllocError` if there is no memory.
 pub fn print_records_bytes(alloc: Global, records: &[Items<Text>]) -> Result<Vec<u8>, AllocError>
-    ensures { IfOk result (λ bytes. bytes.items ≡ records_text records.now) }
+    ensures text { IfOk result (λ bytes. bytes.items ≡ records_text records.now) }
+    ensures utf8 { IfOk result (λ bytes. IsUtf8 bytes.items) }
 {
     let mut lines = Lines::new(alloc);
     for record in records {
@@ -83,7 +87,8 @@ fn lines_of(
     table: u32,
 ) -> Result<Vec<u8>, AllocError>
     requires { table < length instance.now }
-    ensures { IfOk result (λ bytes. bytes.items ≡ records_text (records_of_table columns.now (rows_of instance.now table))) }
+    ensures text { IfOk result (λ bytes. bytes.items ≡ records_text (records_of_table columns.now (rows_of instance.now table))) }
+    ensures utf8 { IfOk result (λ bytes. IsUtf8 bytes.items) }
 {
     let numbers = instance.numbers();
     let mut lines = Lines::new(alloc);
@@ -130,6 +135,7 @@ pub fn print_table_bytes(
     requires width { length columns.now ≡ (table_at instance.now table).width }
     requires no_mark { HasNoMark columns.now }
     ensures text { IfOk result (λ bytes. IsTableText columns.now (rows_of instance.now table) bytes.items) }
+    ensures utf8 { IfOk result (λ bytes. IsUtf8 bytes.items) }
 {
     // What holds of the tables of each instance.
     prove!(table < instance.tables());
@@ -150,6 +156,7 @@ fn print_sorted(
     requires width { length columns.now ≡ (table_at instance.now table).width }
     requires no_mark { HasNoMark columns.now }
     ensures text { IfOk result (λ bytes. IsTableText columns.now (rows_of instance.now table) bytes.items) }
+    ensures utf8 { IfOk result (λ bytes. IsUtf8 bytes.items) }
 {
     let sorted = instance.sorted()?;
     prove!(table < sorted.tables());

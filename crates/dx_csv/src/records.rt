@@ -1,9 +1,10 @@
 // The records of a table, one at a time.
 ghost use Rattle.std.specs.Prelude.{◌≡◌, [], ◌∷◌, IfOk, OnErr, true, false};
+ghost use Rattle.csv.specs.Reading.{error_kind, stops_reader};
 ghost use Rattle.csv.specs.Records.{fields_of};
 ghost use Rattle.dx_csv.specs.Table.{table_records};
 
-use csv::{ByteRecord, Reader, ReaderBuilder};
+use csv::{ByteRecord, Error, ErrorKind, Reader, ReaderBuilder};
 use std::alloc::{AllocError, Global};
 use std::marker::Model;
 
@@ -45,14 +46,32 @@ impl<'a> Records<'a> {
         if self.done {
             return Ok(false);
         }
-        let Ok(found) = self.rdr.read_byte_record(row) else {
-            self.done = true;
-            return Err(AllocError);
-        };
-        if !found {
-            self.done = true;
-            return Ok(false);
+        match self.rdr.read_byte_record(row) {
+            Ok(found) => {
+                if !found {
+                    self.done = true;
+                    return Ok(false);
+                }
+                Ok(true)
+            }
+            Err(error) => {
+                self.done = true;
+                Err(want_of_memory(&error))
+            }
         }
-        Ok(true)
+    }
+}
+
+// Why bytes in memory were not read on: there is no memory. The reader also has an error of what it reads from, and no clause
+// of `csv` says that bytes in memory give none: that error too is told as want of memory, here alone in the whole program.
+fn want_of_memory(error: &Error) -> AllocError
+    requires { stops_reader (error_kind error.now) ≡ true }
+{
+    if error.is_io_error() {
+        return AllocError;
+    }
+    match error.kind() {
+        ErrorKind::OutOfMemory => AllocError,
+        _ => unreachable!(),
     }
 }

@@ -1,6 +1,9 @@
-use Rattle.std.proofs.Common.{◌∷◌}
+use Rattle.std.proofs.Common.{◌+◌, ◌∷◌, length}
 use Rattle.dx_csv.proofs.TableFacts.{Loaded}
 use Rattle.dx_csv.proofs.load.rows_under.Given as goal
 
-abbrev pub invariant-loop-number : goal.invariant-loop-number
-invariant-loop-number l = Loaded (l.columns ∷ l.initial.records) l.columns l.rows.items l.records l.number
+abbrev pub invariant-under : goal.invariant-under
+invariant-under l = Loaded (l.columns ∷ l.initial.records) l.columns l.rows.items l.records (l.number + 1)
+
+abbrev pub decreases-under : goal.decreases-under
+decreases-under l = length l.records

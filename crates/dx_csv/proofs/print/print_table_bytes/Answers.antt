@@ -14,5 +14,6 @@ returns-then-is_ascending c =
     let ascend : RowsAscend rows = OnTrue_at {P = RowsAscend rows} c.if-is_ascending.true c.is_ascending.ensures in
     record {
       text = IfOk-weaker c.lines_of.result (λ t. t.items ≡ records_text (records_of_table columns rows)) (λ t. IsTableText columns rows t.items)
-          (λ t. same-text columns c.args.instance.now c.args.table t.items c.requires.table c.requires.width c.requires.no_mark ascend c.tables.ensures.widths c.tables.ensures.rows) c.lines_of.ensures;
+          (λ t. same-text columns c.args.instance.now c.args.table t.items c.requires.table c.requires.width c.requires.no_mark ascend c.tables.ensures.widths c.tables.ensures.rows) c.lines_of.ensures.text;
+      utf8 = c.lines_of.ensures.utf8;
     }
