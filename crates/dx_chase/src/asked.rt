@@ -6,13 +6,14 @@ ghost use Rattle.dx_chase.specs.Parts.{LieFrom, demands_in, chase_part_at, picke
 ghost use Rattle.dx_chase.specs.Rows.{AddsRows, AddsTable, AreRowDemands, ColumnsFit, determination_columns, determination_count, number_row, row_count};
 
 use crate::tables::{Columns, NumberTable};
+use dx_base::no_number_left;
 use std::alloc::{AllocError, Global};
 use std::marker::Model;
 
 /// The demands of the rows of a table for one determination: the number of the first of them.
 #[derive(Clone, Copy, PartialEq, Eq)]
 pub struct Part {
-    pub first: u32,
+    pub first: u64,
     pub table: u32,
     pub determination: u32,
 }
@@ -22,7 +23,7 @@ pub struct Part {
 pub struct Demands<'a, 't> {
     tables: &'a [NumberTable<'t>],
     parts: Vec<Part>,
-    count: u32,
+    count: u64,
 }
 
 impl<'a, 't> Model for Demands<'a, 't> {
@@ -48,24 +49,24 @@ pub struct Asked<'a> {
     pub right: &'a [u32],
 }
 
-// A place as a short number: there is no memory for more.
+// A place as a short number.
 fn short(place: usize) -> Result<u32, AllocError>
     ensures { IfOk result (λ x. x ≡ place) }
 {
-    match u32::try_from(place) {
-        Ok(x) => Ok(x),
-        Err(_) => Err(AllocError),
-    }
+    let Ok(x) = u32::try_from(place) else {
+        return Err(no_number_left(place as u64));
+    };
+    Ok(x)
 }
 
-// A sum as a short number: there is no memory for more.
-fn sum(a: u32, b: u32) -> Result<u32, AllocError>
-    ensures { IfOk result (λ x. x ≡ a + b) }
+// So many and some more.
+fn sum(count: u64, more: u32) -> Result<u64, AllocError>
+    ensures { IfOk result (λ x. x ≡ count + more) }
 {
-    match a.checked_add(b) {
-        Some(x) => Ok(x),
-        None => Err(AllocError),
-    }
+    let Some(all) = count.checked_add(u64::from(more)) else {
+        return Err(no_number_left(count));
+    };
+    Ok(all)
 }
 
 fn row_total(tables: &[NumberTable<'_>], table: u32) -> u32
@@ -104,7 +105,7 @@ fn columns_of<'a>(tables: &'a [NumberTable<'_>], table: u32, determination: u32)
 }
 
 // The part of a demand: the last one that does not begin after it.
-fn part_of(parts: &[Part], i: u32) -> usize
+fn part_of(parts: &[Part], i: u64) -> usize
     requires some { 0 < length parts.now }
     requires from { (chase_part_at parts.now 0).first ≤ i }
     ensures inside { result < length parts.now }
@@ -126,14 +127,14 @@ fn part_of(parts: &[Part], i: u32) -> usize
 
 impl<'a, 't> Demands<'a, 't> {
     /// How many demands there are.
-    pub fn len(&self) -> u32
+    pub fn len(&self) -> u64
         ensures { result ≡ length self.now }
     {
         self.count
     }
 
     /// A demand, lent.
-    pub fn asked(&self, i: u32) -> Asked<'a>
+    pub fn asked(&self, i: u64) -> Asked<'a>
         requires { i < length self.now }
         ensures table { result.table ≡ (demand_at self.now i).table }
         ensures determination { result.determination ≡ (demand_at self.now i).determination }
@@ -145,9 +146,10 @@ impl<'a, 't> Demands<'a, 't> {
     {
         let parts = self.parts.as_slice();
         let part = parts[part_of(parts, i)];
-        let row = i - part.first;
         let tables = self.tables;
         let columns = columns_of(tables, part.table, part.determination);
+        let _few = row_total(tables, part.table);
+        let row = (i - part.first) as u32;
         Asked {
             table: part.table,
             determination: part.determination,
@@ -165,8 +167,8 @@ fn add_rows(
     table: u32,
     determination: u32,
     parts: &mut Vec<Part>,
-    count: u32,
-) -> Result<u32, AllocError>
+    count: u64,
+) -> Result<u64, AllocError>
     requires table { table < length tables.now }
     requires determination { determination < determination_count tables.now table }
     requires lie { LieFrom tables.now 0 parts.old.items count }
@@ -188,8 +190,8 @@ fn add_table(
     tables: &[NumberTable<'_>],
     table: u32,
     parts: &mut Vec<Part>,
-    count: u32,
-) -> Result<u32, AllocError>
+    count: u64,
+) -> Result<u64, AllocError>
     requires table { table < length tables.now }
     requires lie { LieFrom tables.now 0 parts.old.items count }
     ensures adds { OnOk result (AddsTable tables.now table (demands_in tables.now parts.old.items)
@@ -218,7 +220,7 @@ pub fn demands_of<'a, 't>(
     ensures { IfOk result (AreRowDemands tables.now) }
 {
     let mut parts = Vec::new(alloc);
-    let mut count = 0;
+    let mut count = 0u64;
     for t in 0..tables.len() {
         let table = short(t)?;
         count = add_table(tables, table, &mut parts, count)?;

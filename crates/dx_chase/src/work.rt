@@ -10,8 +10,8 @@ use std::marker::Model;
 /// that came since.
 #[derive(Drop)]
 pub struct Work {
-    fresh: u32,
-    woken: Vec<u32>,
+    fresh: u64,
+    woken: Vec<u64>,
 }
 
 impl Model for Work {
@@ -25,7 +25,7 @@ impl Model for Work {
 
 impl Work {
     /// The numbers below n.
-    pub fn new(alloc: Global, n: u32) -> Work
+    pub fn new(alloc: Global, n: u64) -> Work
         ensures { result ≡ range_with_len 0 n }
     {
         Work {
@@ -35,7 +35,7 @@ impl Work {
     }
 
     /// The last number, which waits no more.
-    pub fn pop(&mut self) -> Option<u32>
+    pub fn pop(&mut self) -> Option<u64>
         ensures some { IfSome result (λ one. self.old ≡ self.new ++ one ∷ []) }
         ensures none { IfNone result (self.old ≡ []) }
         ensures empty { IfNone result (self.new ≡ []) }
@@ -55,7 +55,7 @@ impl Work {
     /// # Errors
     ///
     /// `AllocError` if there is no memory.
-    pub fn push(&mut self, one: u32) -> Result<(), AllocError>
+    pub fn push(&mut self, one: u64) -> Result<(), AllocError>
         ensures { OnOk result (self.new ≡ self.old ++ one ∷ []) }
     {
         self.woken.push(one)?;
@@ -67,7 +67,7 @@ impl Work {
     /// # Errors
     ///
     /// `AllocError` if there is no memory.
-    pub fn add(&mut self, more: &[u32]) -> Result<(), AllocError>
+    pub fn add(&mut self, more: &[u64]) -> Result<(), AllocError>
         ensures { OnOk result (AddsNumbers more.now self.old self.new) }
     {
         for one in more {

@@ -1,4 +1,4 @@
-use Rattle.std.proofs.Common.{sym, ap}
+use Rattle.std.proofs.Common.{sym, ap, arith}
 use Rattle.dx_chase.specs.Demands.{Demand}
 use Rattle.dx_chase.proofs.PartFacts.{asked_here}
 use Rattle.dx_chase.proofs.asked.Demands.asked.Goals as goal
@@ -16,6 +16,22 @@ columns_of-columns-requires-clause-determination c =
     asked_here c.self.inside.tables.now c.self.inside.parts.items c.as_slice-parts.result.now c.self.inside.count c.args.i c.part_of.result c.args.self.now
     c.as_slice-parts.ensures.value c.self.invariant c.self.view_is c.requires c.part_of.ensures.inside c.part_of.ensures.from c.part_of.ensures.to in
     S.inside.determination
+
+pub row_total-few-requires : goal.row_total-few-requires
+row_total-few-requires c =
+    let S =
+    asked_here c.self.inside.tables.now c.self.inside.parts.items c.as_slice-parts.result.now c.self.inside.count c.args.i c.part_of.result c.args.self.now
+    c.as_slice-parts.ensures.value c.self.invariant c.self.view_is c.requires c.part_of.ensures.inside c.part_of.ensures.from c.part_of.ensures.to in
+    S.inside.table
+
+pub overflow_cast-row : goal.overflow_cast-row
+overflow_cast-row c =
+    let S =
+    asked_here c.self.inside.tables.now c.self.inside.parts.items c.as_slice-parts.result.now c.self.inside.count c.args.i c.part_of.result c.args.self.now
+    c.as_slice-parts.ensures.value c.self.invariant c.self.view_is c.requires c.part_of.ensures.inside c.part_of.ensures.from c.part_of.ensures.to in
+    let r = S.inside.row in
+    let e = c.row_total-few.ensures in
+    omega (arith, r, e)
 
 pub row_of-requires-clause-table : goal.row_of-requires-clause-table
 row_of-requires-clause-table c =
