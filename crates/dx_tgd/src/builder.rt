@@ -1,5 +1,5 @@
 // Rows of numbers for each table, before they are put in order.
-ghost use Rattle.std.specs.Prelude.{◌≡◌, ◌↔◌, ◌<◌, ◌≤◌, ◌-◌, ◌^◌, [], ◌∷◌, IfOk, IsTrue, OnOk, length};
+ghost use Rattle.std.specs.Prelude.{◌≡◌, ◌<◌, ◌≤◌, ◌-◌, ◌^◌, [], ◌∷◌, IfOk, OnOk, length};
 ghost use Rattle.std.specs.List.{AllZip};
 ghost use Rattle.dx_base.specs.Members.{Each};
 ghost use Rattle.dx_model.specs.Rules.{exported as exported_of};
@@ -103,12 +103,12 @@ impl Builder {
         )
     }
 
-    /// Whether a table has room for a row more.
-    pub fn has_room(&self, table: u32) -> bool
+    /// How many rows a table has.
+    pub fn count(&self, table: u32) -> u32
         requires { table < length (built self.now) }
-        ensures { IsTrue result ↔ (length (rows_of (built self.now) table) < 2 ^ 32 - 1) }
+        ensures { result ≡ length (rows_of (built self.now) table) }
     {
-        self.tables[table as usize].count() < u32::MAX
+        self.tables[table as usize].count()
     }
 
     /// One row of numbers more.
