@@ -16,7 +16,7 @@ use crate::found::Found;
 use crate::matched::Matched;
 use crate::nulls::place_nulls;
 use crate::rows_said::value_said;
-use dx_base::Items;
+use dx_base::{Items, no_number_left};
 use dx_cover::{Covers, exported};
 use dx_instance::{NullMap, Rows, Symbols};
 use dx_model::{Cell, NullId, Rule, Value};
@@ -174,8 +174,11 @@ pub fn cover_fold(
     requires texts { Each tables.now (λ t. Each t.rows (AreTexts symbols.now)) }
     ensures { IfOk result (IsCoverFold rules.now (tuples_of symbols.now tables.now)) }
 {
-    if rules.len() > u32::MAX as usize || symbols.len() >= u64::from(u32::MAX) {
-        return Err(AllocError);
+    if rules.len() > u32::MAX as usize {
+        return Err(no_number_left(rules.len() as u64));
+    }
+    if symbols.len() >= u64::from(u32::MAX) {
+        return Err(no_number_left(symbols.len()));
     }
     fold_of_matched(alloc, rules, covers, &Matched::new(symbols, tables))
 }
