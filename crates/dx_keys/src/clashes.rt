@@ -20,7 +20,7 @@ fn demand_row(
     tables: &[NumberTable<'_>],
     roots: &[u32],
     demands: &Demands<'_, '_>,
-    i: u32,
+    i: u64,
 ) -> Result<Row, AllocError>
     requires { CanReadDemand symbols.now tables.now roots.now demands.now i }
     ensures { IfOk result (λ row. row ≡ row_read symbols.now tables.now roots.now (demand_at demands.now i)) }
@@ -31,7 +31,7 @@ fn demand_row(
 }
 
 // The column at a place on the right of a demand.
-fn column_at(tables: &[NumberTable<'_>], demands: &Demands<'_, '_>, i: u32, place: usize) -> u32
+fn column_at(tables: &[NumberTable<'_>], demands: &Demands<'_, '_>, i: u64, place: usize) -> u32
     requires demand { IsRowDemand tables.now (demand_at demands.now i) }
     requires inside { i < length demands.now }
     requires place { place < length (demand_at demands.now i).right }
