@@ -9,6 +9,7 @@ ghost use Rattle.clio_given.specs.declared.values.NoValues.TheVariants.{Memory};
 ghost use Rattle.clio_given.specs.Given.{IsNoRow, IsValueOf};
 ghost use Rattle.clio_given.specs.Reading.{AreShown, IsNoValueFault};
 
+use dx_base::no_number_left;
 use dx_instance::{Gathered, Row, Rows, Value, value_read};
 use std::alloc::{AllocError, AllocFailed, Global};
 
@@ -87,7 +88,7 @@ pub(crate) fn rows_of(
     ensures fault { IfErr result (IsNoValueFault records.now) }
 {
     let Ok(count) = u32::try_from(records.len()) else {
-        return Err(NoValues::Memory);
+        return Err(NoValues::from(no_number_left(records.len() as u64)));
     };
     let mut rows = Rows::new(alloc, width);
     let mut numbers = Vec::new(alloc);

@@ -11,7 +11,7 @@ use Rattle.dx_model.specs.declared.values.Value.TheVariants.{Null}
 use Rattle.dx_model.specs.Values.{Ascends, NullsAscend, RowsAscend, null_cmp, value_cmp}
 use Rattle.dx_instance.specs.Cells.{NumberTable, NumbersAscend}
 use Rattle.dx_instance.specs.Numbers.{ValuesAscend, value_of}
-use Rattle.dx_instance.specs.Shown.{AreBelow, NumberedInstance, PartsFit, shown_row}
+use Rattle.dx_instance.specs.Shown.{AreBelow, NumberedInstance, PartsFit, shown_row, shown_tables}
 use Rattle.dx_instance.specs.Stored.{TableRows, facts, rows_of}
 use Rattle.dx_instance.proofs.ShownFacts.{is_shown, number_less, row_less}
 use Rattle.dx_instance.proofs.KeyFacts.{from_less}
@@ -44,6 +44,10 @@ numbers_up N (n ∷ ns) up are a = (
       from_less n m (sym (number_less N.symbols n m up x.within y.within) ∙ (c ∙ l))),
   numbers_up N ns up (λ m i. are m (there i)) a.1,
 )
+
+-- numbers that are those of an instance show what it shows
+pub is_shown_by : (N M : NumberedInstance) → N.symbols ≡ M.symbols → N.tables ≡ M.tables → shown_by N ≡ shown_by M
+is_shown_by N M s t = ap (λ (S : List Value). shown_tables S N.tables) s ∙ ap (λ (ts : List NumberTable). shown_tables M.symbols ts) t
 
 -- ---- what the blocks are
 

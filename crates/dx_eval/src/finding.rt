@@ -16,7 +16,7 @@ ghost use Rattle.dx_eval.specs.Finding.{AreFoundSteps, IsFoundUpTo, IsEvalRefusa
 use crate::fault::EvalFault;
 use crate::matching::step_rows;
 use crate::source::Source;
-use dx_base::{Count, Items, Limit, Text};
+use dx_base::{Count, Items, Limit, Text, no_number_left};
 use dx_funcs::Meaning;
 use dx_instance::{Rows, Symbols};
 use dx_script::Step;
@@ -45,7 +45,7 @@ fn rule_cells(steps: &[Step], rule: u32) -> Result<u64, AllocError>
     for step in steps {
         let more = step_cells(step, rule);
         if more > u64::MAX - cells {
-            return Err(AllocError);
+            return Err(no_number_left(cells.saturating_add(more)));
         }
         cells += more;
     }

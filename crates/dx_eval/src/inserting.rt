@@ -20,6 +20,7 @@ ghost use Rattle.dx_eval.specs.Inserting.{CellsFitTable, HasNoFacts, InsertStand
 use crate::keeping::stay_places;
 use crate::names::table_number;
 use crate::rule_tables::RuleTables;
+use dx_base::no_number_left;
 use dx_instance::{NullId, Rows, Value};
 use dx_schema::Schema;
 use dx_script::{Out, Step};
@@ -108,8 +109,9 @@ fn insert_places(
             &mut buffer,
             target,
         )?;
-        if !target.has_room(table) {
-            return Err(AllocError);
+        let count = target.count(table);
+        if count == u32::MAX {
+            return Err(no_number_left(u64::from(count)));
         }
         target.add(table, &buffer)?;
     }
@@ -170,7 +172,7 @@ pub(crate) fn insert_all(
         ↔ IsInserted (table_names_of schema.now) steps.now (tuples_in target.old.symbols tables.now) f) }
 {
     if tables.len() > u32::MAX as usize {
-        return Err(AllocError);
+        return Err(no_number_left(tables.len() as u64));
     }
     for rule in 0..tables.len() {
         let own = RuleTables {

@@ -4,6 +4,7 @@ ghost use Rattle.dx_base.specs.Members.{◌∈◌, Each};
 ghost use Rattle.dx_instance.specs.Cells.{NumbersAscend};
 ghost use Rattle.dx_eval.specs.Keeping.{AreKeys, column_numbers, other_columns, own_columns};
 
+use dx_base::no_number_left;
 use dx_instance::Rows;
 use dx_script::Test;
 use std::alloc::{AllocError, Global};
@@ -61,7 +62,7 @@ pub(crate) fn keys_of(alloc: Global, rows: &Rows, columns: &[u32]) -> Result<Row
 {
     let count = rows.count();
     if columns.len() > u32::MAX as usize {
-        return Err(AllocError);
+        return Err(no_number_left(columns.len() as u64));
     }
     let mut keys = Rows::new(alloc, columns.len() as u32);
     let mut buffer = Vec::new(alloc);

@@ -12,7 +12,7 @@ ghost use Rattle.dx_eval.specs.Query.{IsSelected};
 
 use crate::query::Query;
 use crate::source::Source;
-use dx_base::{Items, Text};
+use dx_base::{Items, Text, no_number_left};
 use dx_funcs::Meaning;
 use dx_instance::{Rows, Symbols};
 use dx_joins::shown_rows;
@@ -65,7 +65,7 @@ pub(crate) fn step_rows<F: Fn(u32, &Items<Text>) -> Result<Text, AllocError>, M:
         return one_row(alloc, most);
     }
     if select.len() > u32::MAX as usize {
-        return Err(AllocError);
+        return Err(no_number_left(select.len() as u64));
     }
     let Query {
         premise,

@@ -12,7 +12,7 @@ ghost use Rattle.dx_eval.specs.Query.{IsQuery, alias_atoms, code_found, derived_
 
 use crate::names::table_number;
 use crate::variables::{Variables, variable_of_cell};
-use dx_base::{Items, Text};
+use dx_base::{Items, Text, no_number_left};
 use dx_funcs::{Host, Meaning};
 use dx_model::{Atom, Cell, Derived};
 use dx_schema::Schema;
@@ -145,7 +145,7 @@ fn shown_variables<F: Fn(u32, &Items<Text>) -> Result<Text, AllocError>, M: Mean
             }
             Select::Call { .. } => {
                 if next == u32::MAX {
-                    return Err(AllocError);
+                    return Err(no_number_left(u64::from(next)));
                 }
                 shown.push(next)?;
                 next += 1;

@@ -8,7 +8,7 @@ ghost use Rattle.dx_script.specs.Names.{table_names};
 ghost use Rattle.dx_eval.specs.Variables.{AreSeparate, AreVariables, AreWide, IsUnified, renamed, variable_of};
 
 use crate::names::{column_number, table_width};
-use dx_base::{Items, Text};
+use dx_base::{Items, Text, no_number_left};
 use dx_schema::Schema;
 use dx_script::{CellRef, Equal};
 use std::alloc::{AllocError, Global};
@@ -42,7 +42,7 @@ fn separate(alloc: Global, source: &Schema, sources: &[Text]) -> Result<Variable
     for name in sources {
         let width = table_width(source, name);
         if width >= u32::MAX - count {
-            return Err(AllocError);
+            return Err(no_number_left(u64::from(count) + u64::from(width)));
         }
         rows.push(fresh(alloc, count, width)?)?;
         count += width;

@@ -124,7 +124,7 @@ pub(crate) fn made_of(
 {
     let host: Host<_, NoConversions> = Host::build(
         Items::new(alloc),
-        |_code: u32, _texts: &Items<Text>| Err(AllocError),
+        |_code: u32, _texts: &Items<Text>| Text::from_str(alloc, ""),
     );
     canonical_plain(alloc, rules, premise, &host, between.target, between.limit)
 }

@@ -7,6 +7,7 @@ ghost use Rattle.dx_judge.specs.Turning.{IsTurnedOne};
 
 use crate::asking::{atoms_of, can_stand};
 use crate::turning::Turned;
+use dx_base::no_number_left;
 use dx_blocks::nulls_of;
 use dx_instance::Instance;
 use dx_model::{Fact, Value};
@@ -56,8 +57,8 @@ fn is_solved(alloc: Global, from: &[Fact], into: &Turned<'_>) -> Result<bool, Al
     ensures { IfOk result (λ can. IsTrue can ↔ CanMove from.now (facts into.now.plain.now)) }
 {
     let nulls = nulls_of(alloc, from)?;
-    if u32::try_from(nulls.len()).is_err() {
-        return Err(AllocError);
+    if nulls.len() > u32::MAX as usize {
+        return Err(no_number_left(nulls.len() as u64));
     }
     let _wide = into.plain.tables();
     let numbers = into.instance.numbers();

@@ -26,8 +26,8 @@ fill-requires-clause-texts c =
     (row_there c.args.target.now.symbols c.args.at.now.rows.now.rows (get_or c.args.at.now.places.now c.loop-place.place-index 0) c.row.result.now c.requires.texts
     (c.args.at.now.within _ (in_at c.args.at.now.places.now c.loop-place.place-index 0 c.loop-place-test.true)) c.row.ensures.row)
 
-pub has_room-requires : goal.has_room-requires
-has_room-requires c =
+pub count-requires : goal.count-requires
+count-requires c =
     let e = long_tables (built c.args.target.now) (built c.fill.new.target) (ap (λ (I : List TableRows). widths I) c.in_ok-fill.ensures.same ∙ c.loop-place.invariant.gains.widths_stay) in
     omega (arith, e, c.requires.cells.table_there)
 
@@ -42,7 +42,7 @@ add-requires c =
           ∙ (long_shown c.fill.new.target.symbols c.fill.new.buffer.items (inserted c.args.at.now.rule (get_or c.args.at.now.places.now c.loop-place.place-index 0) (texts_of c.loop-place.target.symbols c.row.result.now)) c.args.cells.now c.in_ok-fill.ensures.shown
           ∙ (c.requires.cells.many ∙ wide_as (built c.args.target.now) (built c.fill.new.target) c.args.table w (omega (arith, e, c.requires.cells.table_there))));
       below = rw c.deref.ensures.value c.in_ok-fill.ensures.below;
-      room = c.has_room.ensures.0 c.if-not-has_room.false;
+      room = omega (arith, c.count-count.ensures, c.if-count.false);
     }
 
 pub loop-place-preserved : goal.loop-place-preserved
