@@ -44,7 +44,7 @@ def program() -> str:
 
 def harmless(text: str) -> str:
     """A text with nothing in it that a terminal would take as a command."""
-    return "".join(sign if sign.isprintable() or sign in "\n\t" else f"\\u{ord(sign):04x}" for sign in text)
+    return "".join(sign if sign.isprintable() or sign in "\n\t" else f"\\u{{{ord(sign):x}}}" for sign in text)
 
 
 def remark(name: str, text: object) -> None:

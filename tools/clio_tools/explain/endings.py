@@ -1,4 +1,5 @@
 """What can be said of each way in which clio ends, by its status and its message."""
+import itertools
 import pathlib
 import re
 import signal
@@ -10,6 +11,7 @@ from clio_tools.explain.placed import MappingText
 from clio_tools.explain.said import visible
 from clio_tools.explain.source import file_of
 
+MOST_OF_LIMITS = 40  # lines that are said of a limit, whatever the mapping
 OPTIONS = {"show": {"--core"}, "exchange": {"--core", "--nested"}, "demo": {"--core"}}
 
 
@@ -82,7 +84,7 @@ def explained(status, message, words):
     elif status == 5:
         yield from rows(message)
     elif status == 6:
-        yield from sizes.explain(message, content, words)
+        yield from itertools.islice(sizes.explain(message, content, words), MOST_OF_LIMITS)
         yield from drawing_notes.after_limit(message, content)
     elif status == 7:
         yield from system_faults.reading(message.removeprefix("read fault: "))

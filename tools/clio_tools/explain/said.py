@@ -14,7 +14,7 @@ def escape(character):
     number = ord(character)
     if 0xdc80 <= number <= 0xdcff:
         return f"\\x{number - 0xdc00:02x}"
-    return character.encode("unicode_escape", "replace").decode() if number < 0xd800 or number > 0xdfff else f"\\u{number:04x}"
+    return f"\\u{{{number:x}}}"
 
 
 def shown(text, longest=LONGEST):

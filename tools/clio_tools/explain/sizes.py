@@ -1,21 +1,21 @@
 """Which size passed a limit, how large it is, and what to do."""
-import itertools
 import os
 import pathlib
 
 from clio_tools.csv import records
+from clio_tools.explain.causes import of_values, of_variants
 from clio_tools.explain.joins import Matches, TooMany
 from clio_tools.explain.placed import MappingText
 from clio_tools.explain.program import mapping_of
 from clio_tools.explain.query_faults import QueryText
-from clio_tools.explain.said import amount, visible, with_caret
+from clio_tools.explain.said import amount, listed, visible, with_caret
 from clio_tools.explain.source import Source, file_of
-from clio_tools.explain.ways import number_of_candidates, number_of_choices, rules_of_lines, variants_of, ways_of
+from clio_tools.explain.ways import number_of_candidates, rules_of_lines
 from clio_tools.mapping.meaning import read_mapping
 from clio_tools.mapping.rules import OCCURRENCES, TooLarge, closed
 from clio_tools.mapping.tables import tables_of
 
-WAYS = 64
+MOST_RULES = 10  # that are told
 
 DATA = ("split the source where nothing joins across the cut, or run the script on a database of your own: "
         "clio show | grep -v '^rule ' | clio-script-to-postgres")
@@ -26,8 +26,8 @@ CURES = {
     "depth": "flatten the document", "lines": "split the mapping, or write rules: a rule fills a whole row",
     "variants": "make refs optional only where rows without a match are wanted, or write rules in the place of lines",
     "occurrences": "leave out refs that no line needs, or write rules in the place of lines",
-    "ways": "draw fewer lines between these two sets, or write rules in their place",
-    "candidates": "write rules in the place of lines between these sets, or leave out one of two refs to one set",
+    "ways": "leave out one of these refs, if no line needs it, or draw fewer lines between the two sets, or write rules in their place",
+    "candidates": "leave out one of these refs, if no line needs it, or write rules in the place of lines between these sets",
     "rules": "split the mapping",
     "frozen cells": "leave out a rule that others make needless, or atoms of its left side: a set many times there makes many matches",
     "query bytes": "ask in several queries, each in a run of its own", "query atoms": "leave out atoms that others make needless, or ask in several queries",
@@ -127,11 +127,7 @@ def lines(text, number):
 def variants(text, number):
     """The ways to follow the optional refs of each side, where they are too many."""
     for side, trees in ("source", text.source), ("target", text.target):
-        tables_ = tables_of(trees)
-        ways = sorted(((number_of_choices(tables_, place), table.name) for place, table in enumerate(tables_)), reverse=True)
-        if sum(count for count, _ in ways) > number:
-            yield (f"the refs of the {side} can be followed or not in {sum(count for count, _ in ways):,} ways; {number} are allowed: "
-                   + ", ".join(f"{name} ({count:,})" for count, name in ways[:5]))
+        yield from of_variants(tables_of(trees), side, number)
 
 
 def unfolded(tables_, number, known):
@@ -160,34 +156,21 @@ def occurrences(text, number):
                     continue
             except TooLarge:
                 pass
-            yield f"rule {place + 1} of those written by hand has {len(rule.premise)} sets on its left, and with what refs add too many on one side:"
+            yield f"hand-written rule {place} has {len(rule.premise)} sets on its left, and with what refs add too many on one side:"
             first = text.rules[place].premise[0].name
             yield from with_caret(text.content, first.start, len(first.text))
             return
 
 
-def pairs_of(text):
-    """The pairs of a source and a target table, each in all ways to follow its refs, with the values that lines give."""
-    mapping = read_mapping(text.content)
-    for one, sources in enumerate(variants_of(mapping.source)):
-        for other, targets in enumerate(variants_of(mapping.target)):
-            for source, target in itertools.product(sources, targets):
-                yield mapping.source[one].name, mapping.target[other].name, ways_of(mapping.lines, source, target)
-
-
 def ways(text, number):
-    for one, other, found in pairs_of(text):
-        count = sum(map(len, found.values()))
-        if count > WAYS:
-            yield f"lines give {count:,} values from {one}, with what its refs lead to, to {other} with what its refs lead to; {number} are allowed"
+    """The lines and refs that make the values of two tables too many."""
+    yield from of_values(read_mapping(text.content), lambda found: sum(map(len, found.values())), number)
 
 
 def candidates(text, number):
-    counted = sorted(((number_of_candidates(found), one, other) for one, other, found in pairs_of(text)), reverse=True)
-    yield f"{amount(sum(count for count, _, _ in counted), 'combination')} of values in all; {number:,} are allowed"
-    for count, one, other in counted[:5]:
-        if count > 1:
-            yield f"   from {one} to {other}: {count:,}"
+    """The lines and refs that make the combinations of values too many."""
+    yield "a combination has one value for each target column that has some, and each is a rule, if no smaller one says as much"
+    yield from of_values(read_mapping(text.content), number_of_candidates, number)
 
 
 def rules(text, number):
@@ -236,18 +219,35 @@ def source_cells(text, number):
 
 
 def target_cells(text, number):
-    """The cells that each rule makes."""
+    """The rules that make most cells, and why."""
     mapping, printed = mapping_of(text.content)
     if mapping is None:
         return
-    source, total = Source(mapping), 0
+    source, counted, total = Source(mapping), [], 0
     for place, rule in enumerate(mapping.rules):
         cells = len(rule.conclusion_cells())
         try:
             count = len(Matches(rule, source, most_tuples=number // cells + 1).found)
+            total += count * cells
+            counted.append((count * cells, place, f"{amount(count, 'match', 'matches')} of {cells} cells, {count * cells:,}"))
         except TooMany:
-            yield f"   rule {place}: more than {number:,} cells: {visible(printed[place])[:300]}"
-            continue
-        total += count * cells
-        yield f"   rule {place}: {amount(count, 'match', 'matches')} of {cells} cells, {count * cells:,}: {visible(printed[place])[:300]}"
+            counted.append((number + 1, place, f"more than {number:,} cells"))
+    for _, place, said in sorted(counted, key=lambda one: (-one[0], one[1]))[:MOST_RULES]:
+        yield f"   rule {place}: {said}: {visible(printed[place])[:300]}"
+    if len(counted) > MOST_RULES:
+        yield f"   and {amount(len(counted) - MOST_RULES, 'rule')} with fewer"
     yield f"the rules make {total:,} cells" + (f"; {number:,} are allowed" if total > number else " besides")
+    yield from of_premise(mapping, max(counted, key=lambda one: one[0])[1], source)
+
+
+def of_premise(mapping, number, source):
+    """The sets on the left of a rule with their rows, and those that nothing joins."""
+    rule = mapping.rules[number]
+    names = dict.fromkeys(f"{mapping.source[atom.table].name} ({amount(len(source.rows[atom.table].rows), 'row')})" for atom in rule.premise)
+    yield f"rule {number} joins {listed(names)}"
+    first = set(rule.premise[0].cells)
+    for _ in rule.premise:
+        first = first.union(*(atom.cells for atom in rule.premise if first.intersection(atom.cells)))
+    apart = dict.fromkeys(mapping.source[atom.table].name for atom in rule.premise if not first.intersection(atom.cells))
+    if apart:
+        yield f"nothing joins {listed(apart)} to the others: each row there is taken with each row of these"
