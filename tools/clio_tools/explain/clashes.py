@@ -1,11 +1,13 @@
 """All clashes of a mapping and its source, each with the source rows behind its texts."""
 import re
 
+from clio_tools.explain.causes import shown_ref
 from clio_tools.explain.joins import Matches, TooMany
 from clio_tools.explain.key_chase import Canonical, KeyChase
 from clio_tools.explain.program import mapping_of
-from clio_tools.explain.said import amount, shown, visible
+from clio_tools.explain.said import amount, listed, shown, visible
 from clio_tools.explain.source import Source
+from clio_tools.mapping.rules import LITERAL
 
 IN_FULL = 50  # clashes that are told with their rows
 IN_ALL = 1000  # clashes that are told at all
@@ -49,6 +51,8 @@ class Clashes:
         """All clashes in words."""
         ordered = self.ordered(message)
         yield f"{amount(len(ordered), 'clash', 'clashes')} in all: rows that agree on a key{self.or_dependency()} and have different texts in a column"
+        if ordered:
+            yield from self.causes(ordered[0])
         for number, clash in enumerate(ordered[:IN_ALL]):
             table, key, column = self.names(clash)
             agreed = ", ".join(f"{name} = {self.shown_value(value)}" for name, value in zip(key, clash.agreed))
@@ -61,6 +65,33 @@ class Clashes:
                 yield from self.of_nulls(clash)
         if len(ordered) > IN_ALL:
             yield f"and {len(ordered) - IN_ALL:,} more"
+
+    def causes(self, clash):
+        """What of the mapping makes the texts of the first clash meet: a text of its own, or a set that a rule has twice."""
+        origins = [self.canonical.origins[clash.table][rows[0]][0] for rows in clash.texts.values()]
+        cells = [self.mapping.rules[one.rule].conclusion[one.atom].cells[clash.column] for one in origins]
+        table, _, column = self.names(clash)
+        literals = dict.fromkeys(cell.content for cell in cells if cell.kind == LITERAL)
+        for text in literals:
+            rules = listed(str(number) for number, rule in enumerate(self.mapping.rules)
+                           if any(atom.table == clash.table and atom.cells[clash.column] == (LITERAL, text) for atom in rule.conclusion))
+            yield (f"cause: {shown(text)} is a text of the mapping: its line fills {table}.{column} in each rule that no other line fills there, "
+                   f"so in rules {rules}: make the key hold apart what these rules make, or write rules in the place of this line")
+        twice = [line for number in dict.fromkeys(one.rule for one in origins) for line in self.twice(number)]
+        yield from twice
+        if len({one.rule for one in origins}) > 1 and not literals and not twice:
+            rules = listed(dict.fromkeys(str(one.rule) for one in origins))
+            yield f"cause: rules {rules} both fill {table}.{column}, from sources that do not agree"
+
+    def twice(self, number):
+        """A set that a rule has twice on its left, or on its right, with the refs that lead there."""
+        rule = self.mapping.rules[number]
+        for side, tables, atoms in ("left", self.mapping.source, rule.premise), ("right", self.mapping.target, rule.conclusion):
+            numbers = [atom.table for atom in atoms]
+            for double in [one for one in dict.fromkeys(numbers) if numbers.count(one) > 1]:
+                refs = [shown_ref(tables, one, link) for one in dict.fromkeys(numbers) for link in tables[one].every_link() if link.table == double]
+                yield (f"cause: rule {number} has {tables[double].name} {amount(numbers.count(double), 'time')} on its {side}, by "
+                       f"{' and '.join(refs) or 'its text'}: values of different rows there meet in one row: leave out a ref, or write rules")
 
     def or_dependency(self):
         """What else rows may agree on."""

@@ -2,8 +2,8 @@
 
     clio-explain [WORD..]
 
-It runs `clio` with these words in the current folder: the one on the path, or else the one of the repository. What clio prints, its message and its
-status are passed on unchanged. Below the message it says more on standard error, each text in quotes, cut if it is long, and without control
+It runs `clio` with these words in the current folder: the one on the path, or else the one of the repository. What clio prints and its
+status are passed on unchanged, its message with control characters as \\u{..}. Below the message it says more on standard error, each text in quotes, cut if it is long, and without control
 characters:
 
     mapping: ..          line, column, carets under the word, what can be there, and the names that exist there
@@ -36,6 +36,7 @@ import sys
 
 from clio_tools.explain.endings import explained
 from clio_tools.explain.program import program
+from clio_tools.explain.said import visible
 
 
 def say(lines, before):
@@ -59,9 +60,10 @@ def main():
     except OSError as error:
         sys.exit(f"clio-explain: {clio}: {error.strerror}")
     try:
-        sys.stderr.buffer.write(run.stderr)
-        sys.stderr.flush()
         message = run.stderr.decode("utf-8", "surrogateescape").removesuffix("\n")
+        if message:
+            said = message if run.returncode == 2 else visible(message)
+            os.write(2, f"{said}\n".encode("utf-8", "backslashreplace"))
         say(explained(run.returncode, message, words), "clio-explain: " if run.returncode == 0 else "  ")
     except OSError:
         pass  # nobody reads standard error

@@ -12,10 +12,13 @@ from clio_tools.mapping.tables import SetTree, tables_of
 from clio_tools.explain.said import amount, listed, visible, with_caret
 
 CHARACTERS = {
-    b"'": "texts are in \", not in '", b"#": "a comment begins with //", b"-": "a name has letters, digits and _ alone; an arrow is ->",
+    b"'": "texts are in \", not in '", b"#": "a comment begins with //", b"-": "a comment begins with //; a name has letters, digits and _ alone; an arrow is ->",
     b">": "an arrow is ->", b"/": "a comment begins with //", b"\xef": "if this is a byte order mark, take it off: sed -i '1s/^\\xef\\xbb\\xbf//' mapping.clio",
     b"\xff": "the text isn't UTF-8: write it as UTF-8", b"\xfe": "the text isn't UTF-8: write it as UTF-8", b":": "the marks are { } ( ) , ; . = ->",
 }
+
+
+CURLY = "\u201c\u201d\u201e\u201f\u2018\u2019\u201a\u00ab\u00bb"  # quotes of word processors
 
 
 def explain(message, content):
@@ -38,7 +41,7 @@ def absent():
     yield f"clio reads mapping.clio in the folder where it is started: {visible(os.getcwd())}"
     if os.path.islink("mapping.clio"):
         yield f"mapping.clio is a link to {visible(os.readlink('mapping.clio'))}, which isn't there"
-    alike = [name for name in sorted(os.listdir(".")) if name.lower().endswith(".clio")]
+    alike = mappings_here()
     if alike:
         yield f"there is {listed(alike)}: rename it, or link it: ln -s {visible(alike[0])} mapping.clio"
     below = [name for name in sorted(os.listdir(".")) if os.path.isfile(os.path.join(name, "mapping.clio"))]
@@ -46,17 +49,41 @@ def absent():
         yield f"these folders have one: {listed(below)}"
 
 
+def mappings_here():
+    """The other files of this folder that are mapping texts."""
+    found = []
+    for name in sorted(os.listdir(".")):
+        if name.lower().endswith(".clio") and name not in ("mapping.clio", "other.clio") and os.path.isfile(name):
+            with open(name, "rb") as file:
+                if re.match(rb"(\s|//[^\n]*\n)*mapping\s", file.read(4096)):
+                    found.append(name)
+    return found
+
+
 def at_byte(kind, place, text, message):
     """A fault at a byte: its line with carets, then what stands in its place or what exists."""
     yield from with_caret(text.content, place, token_length(text.content, place))
     if kind in ("unexpected token", "text ended") and text.fault and is_told(text.fault, kind, place):
-        yield from of_token(text.fault)
+        yield from of_place(text.content, place) or of_token(text.fault)
     if kind == "text ended":
         yield from unclosed(text.content)
     elif kind == "bad character":
         yield from of_character(text.content, place)
     elif kind in ("unknown name", "wrong number of cells", "unsafe variable") and not text.fault:
         yield from of_name(place, text)
+
+
+def of_place(content: bytes, place: int) -> list[str]:
+    """What is often meant at a place where it can't be: a test in a rule, or a conversion in another one."""
+    before = re.split(rb";|}", content[:place])[-1]
+    if content[place:place + 1] == b"(" and re.search(rb"\b(trim|digits|join)\s*\(\s*(trim|digits|join)\s*$", before):
+        return ["conversions can't stand in each other: one takes columns alone (in a rule variables)"]
+    in_rule, is_right = re.match(rb"\s*(//[^\n]*\n\s*)*rule\b", before), b"->" in before
+    if in_rule and not is_right and content[place:place + 1] == b'"':
+        return ["a rule has no test of a text: its left side has variables alone, and after `where` conversions",
+                f"a column of the source is tested by `only SET.COLUMN TEST;`, with one of the tests {listed(TESTS)} (mapping 2); "
+                "for any other test leave rows out before"]
+    return []
 
 
 def of_token(fault: Fault) -> Iterator[str]:
@@ -82,6 +109,13 @@ def of_character(content, place):
     """A byte at which no token begins, or that can't be in a text."""
     byte = content[place:place + 1]
     if not byte:
+        return
+    if content[place:place + 2] == b"--":
+        yield "a comment begins with //"
+        return
+    sign = content[place:place + 4].decode("utf-8", "ignore")[:1]
+    if sign and sign in CURLY:
+        yield f"texts are in straight quotes, \", and this is {sign}"
         return
     yield f"the byte {byte.hex()} begins nothing that can be here" + (f"; {CHARACTERS[byte]}" if byte in CHARACTERS else "")
     if content[place - 1:place] == b"\\":

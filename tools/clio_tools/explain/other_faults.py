@@ -36,9 +36,11 @@ def absent():
     yield f"clio compare reads mapping.clio and other.clio in the folder where it is started: {visible(os.getcwd())}"
     if os.path.islink("other.clio"):
         yield f"other.clio is a link to {visible(os.readlink('other.clio'))}, which isn't there"
-    alike = [name for name in sorted(os.listdir(".")) if name.lower().endswith(".clio") and name not in NAMES]
+    alike = mapping_faults.mappings_here()
     if alike:
-        yield f"there is {visible(alike[0])}: ln -s {visible(alike[0])} other.clio"
+        yield f"there is {visible(alike[0])}: to compare with it, cp {visible(alike[0])} other.clio"
+    else:
+        yield "it is another mapping of the same two schemas: cp mapping.clio other.clio, and change its lines"
 
 
 def clauses(tree, parent):

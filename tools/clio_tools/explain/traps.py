@@ -1,5 +1,7 @@
-"""Warnings after a run without a refusal: what the manual's traps name."""
+"""Warnings after a run without a refusal: what the manual's traps name. A comment of the mapping switches one off."""
 import pathlib
+import re
+from typing import NamedTuple
 
 from clio_tools.csv import ends_open, records
 from clio_tools.mapping.meaning import read_mapping
@@ -7,8 +9,35 @@ from clio_tools.mapping.rules import EXISTENTIAL, LITERAL, VARIABLE, TooLarge, c
 
 from clio_tools.explain.joins import Matches, TooMany
 from clio_tools.explain.program import mapping_of
-from clio_tools.explain.said import amount, listed, visible
+from clio_tools.explain.quotes import odd_fields
+from clio_tools.explain.said import amount, listed, shown, visible
 from clio_tools.explain.source import Source, file_of
+
+
+OFF = re.compile(r"//[ \t]*clio-explain:[ \t]*off[ \t]+([a-z-]+)(?:[ \t]+([\w#]+))?")
+
+
+class Warned(NamedTuple):
+    """A warning: its name, the set that it is about, and its lines."""
+    name: str
+    set: str
+    lines: list[str]
+
+
+def switched_off(content: bytes) -> set[tuple[str, str]]:
+    """The warnings that comments of a mapping text switch off: by name, and by set, or for all sets."""
+    return {(found[1], found[2] or "") for found in OFF.finditer(content.decode("utf-8", "replace"))}
+
+
+def differs_by_space(text: str, others: set[str]) -> str | None:
+    """The text among others that differs from one by blanks, line ends or other signs that aren't seen."""
+    plain = seen(text)
+    return next((other for other in sorted(others) if other != text and seen(other) == plain), None)
+
+
+def seen(text: str) -> str:
+    """What is seen of a text."""
+    return "".join(sign for sign in text if sign.isprintable() and not sign.isspace())
 
 
 class Traps:
@@ -34,6 +63,8 @@ class Traps:
         yield from self.unused_columns()
         yield from self.unfilled_columns()
         yield from self.ungrouped()
+        yield from self.hidden_literals()
+        yield from self.refs_to_no_key()
 
     def sets_twice(self):
         """Rules of lines that have a set twice on one side; in a rule that is written by hand that is meant."""
@@ -44,8 +75,8 @@ class Traps:
                 numbers = [atom.table for atom in atoms]
                 twice = [tables[one].name for one in dict.fromkeys(numbers) if numbers.count(one) > 1]
                 if twice:
-                    yield (f"rule {number} has {listed(twice)} twice on its {side}, since two ways lead there: is it meant? "
-                           f"If not, leave out a ref, or write rules: {visible(self.printed[number])[:300]}")
+                    yield Warned("twice", twice[0], [f"rule {number} has {listed(twice)} twice on its {side}, since two ways lead there: is it meant? "
+                                                     f"If not, leave out a ref, or write rules: {visible(self.printed[number])[:300]}"])
 
     def unused_columns(self):
         """Columns of the source that go nowhere and join nothing."""
@@ -54,9 +85,9 @@ class Traps:
         for number, table in enumerate(self.source):
             unused = [name for column, name in enumerate(table.columns) if name in table.tree.columns and (number, column) not in used]
             if number not in read:
-                yield f"no rule uses {table.name} of the source"
+                yield Warned("unused", table.name, [f"no rule uses {table.name} of the source"])
             elif unused:
-                yield f"no rule uses {amount(len(unused), 'column')} of {table.name}: {listed(unused, 64)}"
+                yield Warned("unused", table.name, [f"no rule uses {amount(len(unused), 'column')} of {table.name}: {listed(unused, 64)}"])
 
     def unfilled_columns(self):
         """Columns of the target that have nulls alone, to which nothing refers."""
@@ -65,9 +96,10 @@ class Traps:
         for number, table in enumerate(self.target):
             unfilled = [name for column, name in enumerate(table.columns) if name in table.tree.columns and (number, column) not in filled]
             if number not in made:
-                yield f"no rule makes rows of {table.name}" + self.literals_alone(number)
+                yield Warned("unfilled", table.name, [f"no rule makes rows of {table.name}" + self.literals_alone(number)])
             elif unfilled:
-                yield f"nothing fills {amount(len(unfilled), 'column')} of {table.name}, and nothing refers there: {listed(unfilled, 64)}"
+                yield Warned("unfilled", table.name, [f"nothing fills {amount(len(unfilled), 'column')} of {table.name}, and nothing refers there: "
+                                                      f"{listed(unfilled, 64)}"])
 
     def literals_alone(self, number):
         """Why a table that lines lead to has no rows."""
@@ -80,37 +112,76 @@ class Traps:
             for place, rule in enumerate(self.rules):
                 if any(link.table == number and not has_other_key(table, link.referred) and is_open(rule, atom, link)
                        for atom in rule.conclusion for link in self.target[atom.table].links):
-                    yield (f"each match of rule {place} makes a row of its own in {table.name}: the rule leaves open the value by which other rows "
-                           f"refer to it, and {table.name} has no other key")
+                    yield Warned("ungrouped", table.name, [f"each match of rule {place} makes a row of its own in {table.name}: the rule leaves open the "
+                                                           f"value by which other rows refer to it, and {table.name} has no other key"])
                     break
+
+    def hidden_literals(self):
+        """Lines from texts that no rule has: other lines fill the column wherever a rule makes a row."""
+        for line in self.lines:
+            table = self.target[line.target.table]
+            cells = [atom.cells[line.target.column] for rule in self.rules for atom in rule.conclusion if atom.table == line.target.table]
+            if line.literal is not None and cells and not any(cell == (LITERAL, line.literal) for cell in cells):
+                yield Warned("literal", table.name, [f"no rule has the text of line {shown(line.literal)} -> {table.name}.{table.columns[line.target.column]}: "
+                                                     "in each, another line fills the column"])
+
+    def refs_to_no_key(self):
+        """Refs of the target that lead to columns which are no key there."""
+        for number, table in enumerate(self.target):
+            for link in table.every_link()[table.parent is not None:]:
+                other = self.target[link.table]
+                if not any(set(key) <= set(link.referred) for key in other.keys):
+                    referred = listed(other.columns[column] for column in link.referred)
+                    own = listed(table.columns[column] for column in link.own)
+                    yield Warned("no-key", table.name, [f"ref ({own}) -> {other.name} ({referred}) of {table.name} leads to columns that are no key of "
+                                                        f"{other.name}: rows that refer to one value may get several rows there, each with nulls of its own"])
 
     def of_data(self, in_core_mode):
         """What happened to the rows of the source."""
-        for table in self.source:
-            if table.parent is None and not table.inner:
-                content = pathlib.Path(file_of(table)).read_bytes()
-                if b'"' in content and ends_open(content):
-                    yield f"a quote of {file_of(table)} is never closed: its last field runs to the end of the file"
+        yield from self.quotes()
         source = Source(self.mapping)
         for number, table in enumerate(self.source):
             rows = source.rows[number]
             if rows.repeats:
-                yield f"{table.name}: of {amount(rows.records, 'row')}, {rows.repeats:,} {'repeats' if rows.repeats == 1 else 'repeat'} an earlier one, which counts once"
+                yield Warned("repeats", table.name, [f"{table.name}: of {amount(rows.records, 'row')}, {rows.repeats:,} "
+                                                     f"{'repeats' if rows.repeats == 1 else 'repeat'} an earlier one, which counts once"])
         yield from self.dropped(source)
         yield from self.rows_of_nulls(in_core_mode)
+        yield from self.of_matches(source)
+
+    def quotes(self):
+        """Quotes that are read otherwise than the writer of a file meant."""
+        for table in self.source:
+            if table.parent is not None or table.inner:
+                continue
+            file, content = file_of(table), pathlib.Path(file_of(table)).read_bytes()
+            if b'"' in content and ends_open(content):
+                yield Warned("quote", table.name, [f"a quote of {file} is never closed: its last field runs to the end of the file"])
+            odd = list(odd_fields(content))
+            for one in odd[:3]:
+                column = table.columns[one.column] if one.column < len(table.columns) else f"field {one.column + 1}"
+                why = ("a backslash is in front of the quote that closes it, but a quote in a quoted field is written twice" if one.is_escaped
+                       else "what follows the quote that closes it belongs to the field")
+                yield Warned("quote", table.name, [f"{file}, record {one.record}: column {column} has text behind its closing quote: {why}"])
+            if len(odd) > 3:
+                yield Warned("quote", table.name, [f"{file} has {amount(len(odd) - 3, 'such field')} more"])
+
+    def of_matches(self, source):
+        """Matches that say the same, and keys with nothing in them."""
         empty = {}
         for number, rule in enumerate(self.rules):
             try:
                 matches = Matches(rule, source)
             except TooMany:
-                yield f"rule {number} has too many matches to look at its rows here"
+                yield Warned("matches", "", [f"rule {number} has too many matches to look at its rows here"])
                 continue
             yield from self.became_one(number, rule, matches)
             self.count_empty(rule, matches, empty)
         for (table, key), count in sorted(empty.items()):
             if count > 1:
                 names = listed(self.target[table].columns[column] for column in self.target[table].keys[key])
-                yield f"{count:,} matches ask for a row of {self.target[table].name} with nothing in its key ({names}), so it is one row"
+                yield Warned("empty-key", self.target[table].name, [f"{count:,} matches ask for a row of {self.target[table].name} with nothing in its key "
+                                                                    f"({names}), so it is one row"])
 
     def rows_of_nulls(self, in_core_mode):
         """Rows in which nothing is known, as a ref of the target asks for, beside others of their table."""
@@ -122,8 +193,9 @@ class Traps:
             count = sum(1 for fields in rows if all(field[:1] == "?" and field[1:2] != "?" for field in fields))
             if 0 < count < len(rows):
                 fill = f"rule {unknown[0]} fills" if len(unknown) == 1 else f"rules {listed(map(str, unknown))} fill"
-                yield (f"{count:,} of {len(rows):,} rows of {table.name} {'holds' if count == 1 else 'hold'} nothing but nulls, since {fill} no column there: "
-                       f"if that isn't meant, {'' if in_core_mode else 'use core mode, '}make refs to {table.name} optional (mapping 2), or write rules in place of lines")
+                yield Warned("nulls", table.name, [
+                    f"{count:,} of {len(rows):,} rows of {table.name} {'holds' if count == 1 else 'hold'} nothing but nulls, since {fill} no column there: "
+                    f"if that isn't meant, {'' if in_core_mode else 'use core mode, '}make refs to {table.name} optional (mapping 2), or write rules in place of lines"])
 
     def dropped(self, source):
         """Refs of the source that drop rows, and refs that no line uses."""
@@ -135,17 +207,26 @@ class Traps:
                 lost = [place for place, row in enumerate(source.rows[number].rows)
                         if tuple([row[column] for column in link.own]) not in there]
                 if lost:
-                    yield self.of_ref(table, link) + (f": rows of {table.name} without a match there are dropped, {len(lost):,} of "
-                                                      f"{len(source.rows[number].rows):,}; {self.cure(link)}")
-                    for place in lost[:3]:
-                        yield f"   {source.shown_row(number, place)}"
+                    lines = [self.of_ref(table, link) + f": rows of {table.name} without a match there are dropped, {len(lost):,} of "
+                             f"{len(source.rows[number].rows):,}; {self.cure(link)}"]
+                    yield Warned("dropped", table.name, lines + [line for place in lost[:3] for line in self.of_lost(source, number, link, place)])
+
+    def of_lost(self, source, number, link, place):
+        """A row that a ref drops, and a value there that only seems to be the same."""
+        yield f"   {source.shown_row(number, place)}"
+        for own, referred in zip(link.own, link.referred):
+            text, there = source.rows[number].rows[place][own], {row[referred] for row in source.rows[link.table].rows}
+            other = differs_by_space(text, there) if text not in there else None
+            if other is not None:
+                yield (f"   {shown(text)} differs from {shown(other)} of {self.source[link.table].name} by a space, or another sign that isn't seen: "
+                       "a line or rule by trim doesn't help the ref, so mend the file")
 
     def unused_refs(self):
         """Refs along which no line goes, by which rows without a match are dropped."""
         for number, table in enumerate(self.source):
             for link in table.links[table.parent is not None:]:
                 if self.is_taken_along(number, link) and not self.is_used(link):
-                    yield f"{self.of_ref(table, link)}: no line uses it, and rows without a match there are dropped"
+                    yield Warned("dropped", table.name, [f"{self.of_ref(table, link)}: no line uses it, and rows without a match there are dropped"])
 
     def of_ref(self, table, link):
         other = self.source[link.table]
@@ -180,8 +261,9 @@ class Traps:
             names = list(dict.fromkeys(f"{self.source[atom.table].name}.{self.source[atom.table].columns[column]}"
                                        for atom in rule.premise for column, cell in enumerate(atom.cells)
                                        if cell in exported or any(cell in derived.arguments for derived in rule.derived)))
-            yield (f"rule {number}: {amount(matches.number, 'match', 'matches')} are {len(matches.found):,} different ones, since only "
-                   f"{listed(names) or 'texts of the mapping'} go on: {visible(self.printed[number])[:200]}")
+            yield Warned("one", self.source[rule.premise[0].table].name, [
+                f"rule {number}: {amount(matches.number, 'match', 'matches')} are {len(matches.found):,} different ones, since only "
+                f"{listed(names) or 'texts of the mapping'} go on: {visible(self.printed[number])[:200]}"])
 
     def count_empty(self, rule, matches, empty):
         """Counts for each declared key the tuples that put nothing in all of its columns."""
@@ -223,7 +305,7 @@ def is_open(rule, atom, link):
     return all(atom.cells[column].kind == EXISTENTIAL for column in link.own)
 
 
-def explain(words, content):
+def all_warnings(words, content):
     """The warnings after `show` or `exchange`."""
     traps = Traps(content)
     if traps.mapping is None:
@@ -233,3 +315,12 @@ def explain(words, content):
         yield from traps.of_data("--core" in words)
     else:
         yield from traps.unused_refs()
+
+
+def explain(words, content):
+    """The lines of the warnings that no comment switches off, each with its name."""
+    off = switched_off(content)
+    for one in all_warnings(words, content):
+        if not off.intersection({(one.name, ""), (one.name, one.set)}):
+            yield f"{one.lines[0]} [{' '.join([one.name, one.set]).strip()}]"
+            yield from one.lines[1:]
