@@ -21,6 +21,7 @@ from clio_tools.explain.endings import explained
 from clio_tools.explain.joins import Matches
 from clio_tools.explain.key_chase import Canonical, KeyChase
 from clio_tools.explain.program import mapping_of
+from clio_tools.explain.said import visible
 from clio_tools.explain.source import Source
 from chase import Chase
 from matches import canonical, places_of
@@ -128,11 +129,13 @@ class Explain(unittest.TestCase):
             self.try_said(text, case.wanted)
 
     def passed_on(self, case, own):
-        """What clio-explain says after clio's message; all else must be as clio has it."""
+        """What clio-explain says after clio's message, in which control characters are escapes; all else must be as clio has it."""
         told = run([sys.executable, TOOLS / "clio-explain", *case.words])
         self.assertEqual((own.returncode, own.stdout), (told.returncode, told.stdout))
-        self.assertTrue(told.stderr.startswith(own.stderr))
-        text = told.stderr[len(own.stderr) :].decode()
+        message = own.stderr.decode("utf-8", "surrogateescape").removesuffix("\n")
+        said = f"{message if own.returncode == 2 else visible(message)}\n" * bool(message)
+        self.assertTrue(told.stderr.decode().startswith(said))
+        text = told.stderr.decode()[len(said):]
         self.assertNotIn("no more can be said", text)
         return text.replace("\n  ", "\n").removeprefix("  ")
 

@@ -42,9 +42,19 @@ UNCHANGED["timestamp"] = lambda text: "T" not in text and not re.search(r"\.[0-9
 WIDER = {("integer", "bigint"): "bigint", ("integer", "numeric"): "numeric", ("bigint", "numeric"): "numeric"}
 
 
+FORMS = {"integer": "whole and below 2147483648", "bigint": "whole and below 2^63", "numeric": "digits, with a point at most", "real": "as 1.5 or 1e9",
+         "boolean": "true or false", "date": "as 2026-11-30", "timestamp": "as 2026-11-30 23:59:59"}  # what is a value of a type
+null_texts: set[str] = set()  # the text that stands for NULL, if there is one
+
+
+def read_as_null(text: str) -> None:
+    """Takes a text of the source for NULL, as clio-draft --null writes it."""
+    null_texts.add("?" + text if text.startswith("?") else text)
+
+
 def is_open(text):
     """Whether a cell of a target is a null or the empty text, which is NULL under a type."""
-    return not text or (text.startswith("?") and not text.startswith("??"))
+    return not text or (text.startswith("?") and not text.startswith("??")) or text in null_texts
 
 
 class Guess:
@@ -154,4 +164,4 @@ def check_cell(text, type_name, is_key):
         return None
     if is_open(text):
         return f"is {text or 'empty'}, and a column of a key or ref must have a value in each row: give it the type text, numbers by clio-ids, or a rule that fills it" if is_key else None
-    return None if HOLDS[type_name](text) else f"is {text[:80]!r}, which is no {type_name} as it is written"
+    return None if HOLDS[type_name](text) else f"is {text[:80]!r}, which is no {type_name} ({FORMS[type_name]})"

@@ -22,7 +22,11 @@ as comments: for sets and columns of the same names, and by each way that there 
 on standard error say what a reader should know: NULL beside empty texts in a column, rows that a ref doesn't match, a limit that is passed.
 
 `--mapping FILE` writes the data for the sets that a mapping text declares, with the columns in their order, and prints nothing. So a file with
-its columns in another order, or a database with more tables, is read by a mapping that is there.
+its columns in another order, or a database with more tables, is read by a mapping that is there. Of a document, remarks tell members and arrays that the
+mapping doesn't have, which are left out; a declared member that no object has is empty.
+
+`--null TEXT` writes NULL, and null in a document, as this text in place of the empty one, so that they stay apart. It is refused if something else is
+this text. `clio-tables --null TEXT` makes NULL of it again.
 
 `--delimiter SIGN` is the sign between the fields of the files: a single one, or tab, comma, semicolon or pipe. It is a comma if it is left out.
 
@@ -67,13 +71,16 @@ def words_of(words):
         one.add_argument("--lines-from", metavar="FILE", help="print lines from the source in this file, as comments")
         one.add_argument("--data", metavar="FOLDER", help="write the files that the source reads into this folder")
         one.add_argument("--mapping", metavar="FILE", help="write them for the sets of this mapping text, and print nothing")
+        if kind != "csv":
+            one.add_argument("--null", metavar="TEXT", help="write NULL as this text, which nothing else may be, and not as the empty one")
     given = parser.parse_args(words)
     if given.side == "target" and given.data:
         parser.error("--data is for the source: of the target no data is read")
     if given.lines_from and (given.side != "target" or not given.drawing):
         parser.error("--lines-from is for the target of a drawing: --side target --drawing")
-    if given.mapping and not given.data:
-        parser.error("--mapping needs --data")
+    for option in "mapping", "null":
+        if getattr(given, option, None) is not None and not given.data:
+            parser.error(f"--{option} needs --data")
     return given
 
 
@@ -90,10 +97,10 @@ def opened(given):
     return document.Base(given.place), [given.place]
 
 
-def wanted_sets(side, mapping):
-    """The tables whose data is written, each with the order of its columns."""
+def wanted_sets(base, side, mapping):
+    """The tables whose data is written, each with the order of its columns, and the set of the mapping if there is one."""
     if mapping is None:
-        return [(table, [column.word for column in table.said]) for table in side.said]
+        return [(table, [column.word for column in table.said], None) for table in side.said]
     try:
         sets = read_sets(pathlib.Path(mapping).read_text(encoding="utf-8", errors="replace"))["source"]
     except ValueError as error:
@@ -104,22 +111,26 @@ def wanted_sets(side, mapping):
             table = find_set(side, one.name)
             there = [column.word for column in table.said]
             missing = [column for column in one.declared if column not in there]
-            if missing:
+            if missing and not isinstance(base, document.Base):
                 raise Refused(f"{shown(table.name)} has no column for {', '.join(missing)} of {mapping}: it has {', '.join(there)}")
-            wanted.append((table, one.declared))
+            wanted.append((table, one.declared, one))
     return wanted
 
 
 def write_data(base, wanted, written):
     """Writes the files of these tables."""
-    orders = dict((id(table), order) for table, order in wanted)
-    tables = [table for table, _ in wanted]
-    pairs = base.all_rows(tables) if hasattr(base, "all_rows") else ((table, None) for table in tables)
-    for table, rows in pairs:
-        if table.inner:
-            written.document(table, base.documents(table))
-        else:
-            written.table(table, base.rows(table) if rows is None else rows, orders[id(table)])
+    if isinstance(base, document.Base):
+        for table, order, one in wanted:
+            objects = base.documents(table) if one is None else base.mapped(one, table, written.remark)
+            if table.inner if one is None else one.inner:
+                written.document(table, objects)
+            else:
+                written.table(table, ([made[word] for word in order] for made in objects), order, order)
+        return
+    tables = [table for table, _, _ in wanted]
+    pairs = base.all_rows(tables) if hasattr(base, "all_rows") else ((table, base.rows(table)) for table in tables)
+    for (_, order, _), (table, rows) in zip(wanted, pairs):
+        written.table(table, rows, [column.word for column in table.said], order)
 
 
 def work(words):
@@ -127,12 +138,12 @@ def work(words):
     base, sources = opened(given)
     side = Side(given.side, base.tables(), given.drawing)
     if given.data:
-        written = Written(given.data, sources, lambda text: remark("clio-draft", text))
-        wanted = wanted_sets(side, given.mapping)
+        written = Written(given.data, sources, lambda text: remark("clio-draft", text), getattr(given, "null", None))
+        wanted = wanted_sets(base, side, given.mapping)
         write_data(base, wanted, written)
         written.check_limits()
         if not given.mapping:
-            for table, _ in wanted:
+            for table, _, _ in wanted:
                 written.check_refs(table, given.drawing)
     if not given.mapping:
         print(side_text(side), end="")

@@ -13,11 +13,12 @@ MOST_BYTES = 67_108_864
 class Written:
     """Writes files and counts what clio limits; `remark` takes what a reader should know."""
 
-    def __init__(self, folder, sources, remark):
+    def __init__(self, folder, sources, remark, null=None):
         self.folder = pathlib.Path(folder)
         self.folder.mkdir(parents=True, exist_ok=True)
         self.sources = [pathlib.Path(one).resolve() for one in sources]
         self.remark = remark
+        self.null = null
         self.cells = 0
         self.bytes = 0
 
@@ -30,11 +31,10 @@ class Written:
             write(file)
         self.bytes += path.stat().st_size
 
-    def table(self, table, rows, order):
-        """Writes a table as CSV, with its columns in this order; NULL is the empty text."""
-        columns = table.said
-        places = [[column.word for column in columns].index(word) for word in order]
-        nulls, empties = [0] * len(columns), [0] * len(columns)
+    def table(self, table, rows, words, order):
+        """Writes a table as CSV: rows have the columns with these words, and are written in this order."""
+        places = [words.index(word) for word in order]
+        nulls, empties = [0] * len(words), [0] * len(words)
         count = 0
 
         def write(file):
@@ -45,19 +45,33 @@ class Written:
                 for place, cell in enumerate(row):
                     if not cell:
                         (nulls if cell is None else empties)[place] += 1
-                file.write(record_text([row[place] or "" for place in places]))
+                file.write(record_text([self.text(row[place], f"{table.word}.{words[place]}") for place in places]))
 
         self._replace(table.word + ".csv", write)
         self.cells += count * len(order)
-        for column, null, empty in zip(columns, nulls, empties):
-            if null and empty:
+        for word, null, empty in zip(words, nulls, empties):
+            if null and empty and not self.null:
                 both = f"NULL, which stands there {times(null)}, and the empty text, {times(empty)}"
-                self.remark(f"{table.word}.{column.word}: {both}, are both written as the empty text")
+                self.remark(f"{table.word}.{word}: {both}, are both written as the empty text: --null TEXT keeps them apart")
+
+    def text(self, cell, column):
+        """The text of a cell; nothing else than NULL may be the text of NULL."""
+        if cell is None:
+            return self.null or ""
+        if cell == self.null and cell:
+            raise Refused(f"{column} has the text {cell[:60]!r} itself: give --null another one")
+        return cell
 
     def document(self, table, objects):
-        """Writes the objects of a set with inner ones as a document; what is not there is the empty text."""
-        self._replace(table.word + ".json", lambda file: file.write(json.dumps(objects, ensure_ascii=False) + "\n"))
-        self.cells += sum(cells_of(one) for one in objects)
+        """Writes the objects of a set with inner ones as a document."""
+        filled = self.filled(objects, table.word)
+        self._replace(table.word + ".json", lambda file: file.write(json.dumps(filled, ensure_ascii=False) + "\n"))
+        self.cells += sum(cells_of(one) for one in filled)
+
+    def filled(self, objects, name):
+        """Objects with a text in the place of each null."""
+        return [{word: self.filled(value, word) if isinstance(value, list) else self.text(value, f"{name}.{word}") for word, value in one.items()}
+                for one in objects]
 
     def check_limits(self):
         for what, count, most in ("cells", self.cells, MOST_CELLS), ("bytes", self.bytes, MOST_BYTES):

@@ -10,6 +10,7 @@ from clio_tools import json as clio_json
 from clio_tools.program import Refused
 
 from clio_tools.draft.model import Column, Table
+from clio_tools.draft.names import shown, word
 
 VALUE = "value"  # the column of an array of single values
 PLACE = "place"  # that of objects without any
@@ -52,12 +53,14 @@ class Base:
         self.path = pathlib.Path(path)
         self.arrays = roots_of(self.path, values_of(self.path))
         self.paths = {}
+        self.shapes = {}  # what the objects of each table have in them
 
     def tables(self):
         return [self._table(name, shape_of(array), None) for name, array in self.arrays.items()]
 
     def _table(self, name, shape, parent):
         table = Table(name, [], parent=parent)
+        self.shapes[id(table)] = shape
         for path in shape.kinds:
             why_not = shape.why_not(path)
             column = Column("_".join(path))
@@ -79,9 +82,42 @@ class Base:
         """The objects of a root set as clio reads them, with the words for names."""
         return [self._object(table, one, place) for place, one in enumerate(self.arrays[table.name])]
 
-    def rows(self, table):
-        for one in self.documents(table):
-            yield [one[column.word] for column in table.said]
+    def mapped(self, one, table, remark):
+        """The objects of a set as a mapping declares it; tells what it doesn't have, and refuses what it has in another place."""
+        self._check(one, table, remark)
+        return [self._mapped(one, table, value) for value in self.arrays[table.name]]
+
+    def _check(self, one, table, remark):
+        """Compares a set of a mapping with what the objects have."""
+        shape, declared = self.shapes[id(table)], {*one.declared, *(inner.name for inner in one.inner)}
+        kinds = {word("_".join(path)): kind for path, kind in shape.kinds.items()}
+        columns, inner = [column.word for column in table.said if id(column) in self.paths], {each.word: each for each in table.inner}
+        for name in one.declared:
+            if name not in columns and kinds.get(name):
+                raise Refused(f"{table.name}.{name} is {' or '.join(sorted(kinds[name]))} here, and a column in the mapping")
+        for each in one.inner:
+            if each.name not in inner and kinds.get(each.name):
+                raise Refused(f"{table.name}.{each.name} is {' or '.join(sorted(kinds[each.name]))} here, and an inner set in the mapping")
+        absent = [name for name in one.declared if name not in columns]
+        if absent and shape.kinds:
+            remark(f"{table.name}: no object has {', '.join(absent)}: written as null")
+        for path, kind in shape.kinds.items():
+            name = word("_".join(path))
+            if kind and kind != {"object"} and name not in declared:
+                remark(f"{table.name}: the {'array' if kind == {'array'} else 'member'} {shown('.'.join(path))} is not in the mapping, and left out")
+        for each in one.inner:
+            if each.name in inner:
+                self._check(each, inner[each.name], remark)
+
+    def _mapped(self, one, table, value):
+        """An object of a set of a mapping."""
+        places = {column.word: self.paths[id(column)] for column in table.said if id(column) in self.paths}
+        made = {name: text_at(value, places[name]) if name in places else None for name in one.declared}
+        inner = {each.word: each for each in table.inner if not each.why_not}
+        for each in one.inner:
+            array = value_at(value, self.paths[id(inner[each.name])]) if each.name in inner else None
+            made[each.name] = [self._mapped(each, inner[each.name], item if isinstance(item, dict) else {VALUE: item}) for item in array or []]
+        return made
 
     def _object(self, table, one, place):
         made = {}

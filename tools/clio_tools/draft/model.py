@@ -47,6 +47,7 @@ class Table:
     notes: list = dataclasses.field(default_factory=list)
     why_not: str = ""
     word: str = ""
+    is_of_catalog: bool = False  # whether it is known which columns may be NULL
 
     def column(self, name):
         return next(column for column in self.columns if column.name == name)

@@ -30,7 +30,7 @@ class Base:
     def tables(self) -> list[Table]:
         """The tables, in the order of their names."""
         with self.session.transaction(ONE_STATE):
-            named = {oid: Table(name, []) for oid, name in self._all(TABLES, self.schema)}
+            named = {oid: Table(name, [], is_of_catalog=True) for oid, name in self._all(TABLES, self.schema)}
             if not named:
                 raise Refused(f"there is no table in the schema {self.schema}, or no such schema")
             oids = "{" + ",".join(named) + "}"

@@ -60,7 +60,7 @@ class Base:
             if hidden != 1:
                 why_not = "it is a BLOB, which is no text" if "BLOB" in kind.upper() else ""
                 columns.append(Column(column, may_be_null=not filled and not place, why_not=why_not))
-        return Table(name, columns)
+        return Table(name, columns, is_of_catalog=True)
 
     def _add_keys(self, table):
         ranked = sorted((row[5], row[1]) for row in self.ask(f"PRAGMA table_xinfo({quoted(table.name)})") if row[5])

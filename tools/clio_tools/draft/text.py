@@ -31,6 +31,7 @@ def set_lines(table, side_name, blanks, drawing=False):
         return [f"{blanks}// {shown(table.name)} is left out: {table.why_not}"]
     lines = [f"{blanks}set {table.word} {{", *wrapped([column.word for column in table.said], blanks + "  ")]
     within = [f"// {shown(column.name)} is left out: {column.why_not}" for column in table.columns if column.why_not]
+    within += filled_line(table, side_name)
     within += [key_line(table, key, side_name) for key in table.keys]
     within += ref_lines(table, side_name, drawing)
     within += [f"// {note}" for note in table.notes]
@@ -50,6 +51,12 @@ def wrapped(words, blanks):
             line = blanks
         line += f"{word}{end} "
     return lines + [line.rstrip()]
+
+
+def filled_line(table, side_name):
+    """A comment on the columns of the target that must have a value in each row."""
+    filled = [column.word for column in table.said if not column.may_be_null]
+    return [f"// NOT NULL: {', '.join(filled)}"] if filled and side_name == "target" and table.is_of_catalog else []
 
 
 def key_line(table, key, side_name):

@@ -16,8 +16,14 @@ def listed(names):
 
 
 def opened(cell):
-    """A condition of SQL: the cell is a null or the empty text."""
-    return f"({cell} = '' OR ({cell} LIKE '?%' AND {cell} NOT LIKE '??%'))"
+    """A condition of SQL: the cell is a null, the empty text, or the text of NULL."""
+    return " OR ".join([f"({cell} = ''", *(f"{cell} = {literal(text)}" for text in sorted(sql_types.null_texts)),
+                        f"({cell} LIKE '?%' AND {cell} NOT LIKE '??%'))"])
+
+
+def literal(text):
+    """A text of SQL, the same in both databases: a backslash is itself there."""
+    return "'" + text.replace("'", "''") + "'"
 
 
 def _kept(cell):
@@ -136,6 +142,7 @@ def plain(base, table, types):
     for column in table.columns:
         cell = quoted(column)
         if column not in kept and types[table.name, column] == "text":
-            cell = f"CASE WHEN {cell} LIKE '??%' THEN substr({cell}, 2) WHEN {cell} LIKE '?%' THEN NULL ELSE {cell} END AS {cell}"
+            of_null = "".join(f"WHEN {cell} = {literal(text)} THEN NULL " for text in sorted(sql_types.null_texts))
+            cell = f"CASE {of_null}WHEN {cell} LIKE '??%' THEN substr({cell}, 2) WHEN {cell} LIKE '?%' THEN NULL ELSE {cell} END AS {cell}"
         items.append("  " + cell)
     return [f"CREATE VIEW {base.name(table.name + '_plain')} AS SELECT", ",\n".join(items), f"FROM {base.name(table.name)};"]

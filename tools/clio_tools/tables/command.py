@@ -15,6 +15,9 @@ The texts stay as clio wrote them: a null is ?rule.variable.place, and a text th
 hold. For each table there is a view <table>_plain in which the ? are taken off again and a null is NULL, but for the columns of keys and
 refs, which stay as they are.
 
+`--null TEXT` makes NULL of this text, which `clio-draft --null TEXT` wrote in its place: in the views, and in columns with a type other than text. The
+empty text is then a text of its own in columns of type text.
+
 `types` prints a type for each column of the target, the narrowest that holds its texts unchanged; `--types FILE` makes the tables with the
 types of such a file (text, integer, bigint, numeric, real, boolean, date, timestamp). A column with a type other than text has NULL for a
 null and for the empty text; in a column of a key or ref both are refused. What is no value of its type is refused too.
@@ -164,8 +167,11 @@ def words_of(words):
     parser.add_argument("what", choices=["sqlite", "postgres", "types", "source"])
     parser.add_argument("mapping", nargs="?", default="mapping.clio", help="the mapping text (mapping.clio)")
     parser.add_argument("--summary", metavar="FILE", help="what clio exchange printed; - is standard input")
+    parser.add_argument("--null", metavar="TEXT", help="this text is NULL, as clio-draft --null has written it")
     parser.add_argument("--types", metavar="FILE", help="the types of the target's columns, as `clio-tables types` prints them")
     given = parser.parse_args(words)
+    if given.null:
+        sql_types.read_as_null(given.null)
     if given.what == "source" and (given.summary or given.types):
         parser.error("source takes neither --summary nor --types")
     if given.what == "types" and given.types:
