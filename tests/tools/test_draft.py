@@ -224,6 +224,77 @@ class Documents(Draft):
         self.assertIn("sets can be nested 16 deep", self.printed("clio-draft", "json", "deep.json"))
 
 
+class Deltas(Trial):
+    """A later document, read for a mapping that is there."""
+
+    def setUp(self):
+        super().setUp()
+        self.file("orders.json", '[{"id": 1, "shipping": {"street": "Main"}, "lines": [{"n": 1, "what": "tea"}]}]')
+        text = self.printed("clio-draft", "json", "orders.json")
+        self.file("mapping.clio", f"mapping 1; {text} target {{ set t {{ a, b; }} }} line orders.shipping_street -> t.a; line lines.what -> t.b;")
+
+    def read(self, *words, **one):
+        """What is said of an object, and what is written of it."""
+        self.file("new/orders.json", json.dumps([one]))
+        status, _, said = self.tool("clio-draft", "json", "new/orders.json", "--data", ".", "--mapping", "mapping.clio", *words)
+        self.assertEqual(status, 0, said)
+        self.assertEqual(self.clio("exchange")[0], 0)
+        return said, json.loads((self.folder / "orders.json").read_text())
+
+    def test_new_members(self):
+        """A member and an array that the mapping doesn't have are told, at each depth; clio reads what is written."""
+        said, made = self.read(id=2, shipping={"street": "Way", "zip": "1"}, channel="web", discounts=[{"p": 5}], lines=[{"n": 2, "what": "cup", "x": "y"}])
+        self.assertEqual(made, [{"id": "2", "shipping_street": "Way", "lines": [{"n": "2", "what": "cup"}]}])
+        for one in 'member "channel"', 'member "shipping.zip"', 'array "discounts"', 'lines: the member "x"':
+            self.assertIn(f"{one} is not in the mapping, and left out", said)
+
+    def test_null_throughout(self):
+        """An object that is null throughout keeps its columns, and an array that is nowhere its set."""
+        said, made = self.read(id=2, shipping=None)
+        self.assertEqual(made, [{"id": "2", "shipping_street": "", "lines": []}])
+        self.assertIn("no object has shipping_street", said)
+        self.assertNotIn("left out", said)
+
+    def test_other_kind(self):
+        """What the mapping has as a column or an inner set is never left out silently."""
+        for one, why in [({"lines": {"n": 1}}, "orders.lines is object here, and an inner set in the mapping"),
+                         ({"id": [1]}, "orders.id is array here, and a column in the mapping")]:
+            self.file("new/orders.json", json.dumps([one]))
+            self.refused("clio-draft", "json", "new/orders.json", "--data", ".", "--mapping", "mapping.clio", why=why)
+
+    def test_null(self):
+        _, made = self.read("--null", "N/A", id="", shipping=None, lines=[{"n": None}])
+        self.assertEqual(made, [{"id": "", "shipping_street": "N/A", "lines": [{"n": "N/A", "what": "N/A"}]}])
+
+
+class Nulls(Draft):
+    def test_apart(self):
+        """NULL and the empty text stay apart, from a database to a database."""
+        self.base("CREATE TABLE t (id INTEGER PRIMARY KEY, a TEXT NOT NULL, b TEXT); INSERT INTO t VALUES (1, '', NULL), (2, 'x', ''), (3, '?', 'q');")
+        self.assertIn("// NOT NULL: id, a\n", self.printed("clio-draft", "sqlite", "old.db", "--side", "target"))
+        self.assertNotIn("NOT NULL", self.printed("clio-draft", "sqlite", "old.db"))
+        for null in "NULL", "?", "it's\\n":
+            if null == "?":
+                self.refused("clio-draft", "sqlite", "old.db", "--data", ".", "--null", null, why="t.a has the text '?' itself")
+                continue
+            text = self.printed("clio-draft", "sqlite", "old.db", "--data", ".", "--null", null)
+            self.file("mapping.clio", f"mapping 1; {text} target {{ set u {{ id, a, b, c; key (id); }} }}"
+                      "line t.id -> u.id; line t.a -> u.a; line t.b -> u.b; line t.b -> u.c;")
+            self.assertEqual(self.clio("exchange")[0], 0)
+            script = self.printed("clio-tables", "postgres", "--null", null)
+            mark = null.replace("'", "''")
+            self.assertIn(f"CASE WHEN \"b\" = '{mark}' THEN NULL ", script)
+            self.file("types.txt", "u.id integer\nu.b date\n")
+            (self.folder / "t.csv").write_text((self.folder / "t.csv").read_text().replace("q", "2026-11-30"))
+            self.assertEqual(self.clio("exchange")[0], 0)
+            script = self.printed("clio-tables", "postgres", "--null", null, "--types", "types.txt")
+            self.assertIn("\n1\t\t\\N\t", script)
+
+    def test_needs_data(self):
+        self.base("CREATE TABLE t (id)")
+        self.refused("clio-draft", "sqlite", "old.db", "--null", "x", why="--null needs --data")
+
+
 class Shop(Draft):
     def test_whole_migration(self):
         shop = TOP / "examples/shop"

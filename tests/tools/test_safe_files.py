@@ -52,9 +52,12 @@ class SafeFiles(Trial):
 
     def test_names(self) -> None:
         """Nobody can foresee the name of a file that is being made."""
-        made = [Fresh(self.folder / "a").made for _ in range(2)]
-        self.assertNotEqual(*made)
-        self.assertEqual({path.parent for path in made}, {self.folder})
+        one, other = Fresh(self.folder / "a"), Fresh(self.folder / "a")
+        self.assertNotEqual(one.made, other.made)
+        self.assertEqual({one.made.parent, other.made.parent}, {self.folder})
+        for fresh in one, other:
+            fresh.remove()
+        self.assertEqual(self.names(), [])
 
 
 class Tools(Trial):
