@@ -1,9 +1,9 @@
 """Writes the printed mapping and the files that it takes, and nothing of anyone else's."""
 import os
 import pathlib
-import tempfile
 
 from ..program import Refused
+from ..safe_files import replaced
 from .printed import Printed, is_as_printed, marked
 
 
@@ -56,25 +56,9 @@ def _look_at_link(path: pathlib.Path, of: str) -> None:
 
 
 def _put(path: pathlib.Path, content: str) -> bool:
-    """Writes a file whole: first beside it, then in its place; one that has this content stays as it is."""
-    data = content.encode("utf-8")
-    if path.exists() and path.read_bytes() == data:
+    """Writes a file whole; one that has this content stays as it is."""
+    if path.exists() and path.read_bytes() == content.encode("utf-8"):
         return False
-    handle, beside = tempfile.mkstemp(prefix=path.name + ".", dir=path.parent)
-    try:
-        with os.fdopen(handle, "wb") as file:
-            file.write(data)
-        mode = path.stat().st_mode & 0o777 if path.exists() else 0o666 & ~_mask()
-        os.chmod(beside, mode)
-        os.replace(beside, path)
-    except BaseException:
-        os.unlink(beside)
-        raise
+    with replaced(path) as file:
+        file.write(content)
     return True
-
-
-def _mask() -> int:
-    """The bits of rights that new files don't have."""
-    mask = os.umask(0)
-    os.umask(mask)
-    return mask
