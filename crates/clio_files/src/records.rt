@@ -5,7 +5,7 @@ ghost use Rattle.dx_instance.specs.ValueText.{const_text, value_text_of};
 ghost use Rattle.dx_csv.specs.Lines.{NeedsNoQuotes};
 ghost use Rattle.clio_files.specs.Printing.{AreRecords, HasFields};
 
-use dx_base::Text;
+use dx_base::{Text, no_number_left};
 use dx_csv::Lines;
 use dx_model::Value;
 use std::alloc::{AllocError, Global};
@@ -87,13 +87,12 @@ impl Records {
             → OnOk result (AreRecords self.new (records ++ fields ∷ [])) }
     {
         self.lines.end()?;
-        // No buffer holds so many records: the branch spares a proof of it.
         match self.count.checked_add(1) {
             Some(count) => {
                 self.count = count;
                 Ok(())
             }
-            None => Err(AllocError),
+            None => Err(no_number_left(self.count)),
         }
     }
 }

@@ -4,7 +4,7 @@ ghost use Rattle.dx_model.specs.declared.values.Value.TheVariants.{Const};
 ghost use Rattle.dx_model.specs.declared.facts.Fact.{Fact as OneFact};
 ghost use Rattle.dx_json.specs.Lines.{constants_in};
 
-use crate::texts::{SharedTexts, Texts};
+use crate::texts::{SharedTexts, Texts, stored};
 use dx_base::Text;
 use dx_model::{Fact, Row, Value};
 use std::alloc::{AllocError, Global};
@@ -53,13 +53,11 @@ impl FactList {
     pub fn push(&mut self, table: u32, constants: &[Text]) -> Result<(), AllocError>
         ensures { OnOk result (self.new ≡ self.old ++ record { table = table; row = map Const constants.now } ∷ []) }
     {
-        let start = self.texts.len();
+        let start = stored(self.texts.len())?;
         for text in constants {
             self.texts.push(text.as_str())?;
         }
-        let (Ok(start), Ok(end)) = (u32::try_from(start), u32::try_from(self.texts.len())) else {
-            return Err(AllocError);
-        };
+        let end = stored(self.texts.len())?;
         self.lines.push(Line { table, start, end })?;
         Ok(())
     }

@@ -1,5 +1,6 @@
 // Rows as a document.
-ghost use Rattle.std.specs.Prelude.{◌≡◌, ◌+◌, ◌<◌, ◌^◌, [], ◌∷◌, length, string_bytes, IfOk, OnOk};
+ghost use Rattle.std.specs.Prelude.{◌≡◌, ◌+◌, ◌<◌, ◌^◌, ◌++◌, [], ◌∷◌, length, string_bytes, IfOk, OnOk};
+ghost use Rattle.json.specs.Print.{print};
 ghost use Rattle.serde_json.specs.Data.{array, object, string};
 ghost use Rattle.dx_base.specs.declared.limits.TheConstants.{TABLES};
 ghost use Rattle.dx_schema.specs.Tables.{count, schema_widths, tables_of, tree_at};
@@ -236,14 +237,14 @@ impl<'a> Nesting<'a> {
     }
 }
 
-// The string of bytes that are one.
-fn string_of(bytes: Vec<u8>) -> Result<String, AllocError>
-    ensures { IfOk result (λ text. string_bytes text ≡ bytes.items) }
+// The text that a writer has written. It is UTF-8.
+fn written(out: Writer) -> String
+    requires { out.before ≡ [] }
+    ensures { string_bytes result ≡ out.before ++ print out.tokens }
 {
-    match String::from_utf8(bytes) {
-        Ok(text) => Ok(text),
-        // A writer writes UTF-8, and so does a line feed after it.
-        Err(_) => Err(AllocError),
+    match String::from_utf8(out.into_inner()) {
+        Ok(text) => text,
+        Err(_) => unreachable!(),
     }
 }
 
@@ -265,7 +266,7 @@ fn text_of_root(
     };
     let mut out = Writer::new(Vec::new(alloc));
     nesting.write_root(tree, root, &mut out)?;
-    let mut bytes = out.into_inner();
-    bytes.push(b'\n')?;
-    string_of(bytes)
+    let mut text = written(out);
+    text.push_str("\n")?;
+    Ok(text)
 }

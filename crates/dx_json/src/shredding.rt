@@ -18,7 +18,7 @@ use crate::members::{check_members, copy_of, id_of, member_of, path_below, row_o
 use crate::place::Place;
 use crate::reading::{MAX_DEPTH, Unread, read, read_from, text_of};
 use crate::tree::Json;
-use dx_base::Text;
+use dx_base::{Text, no_number_left};
 use dx_schema::{Schema, SetTree, Trees};
 use json::{Reader, Scratch, Token};
 use std::alloc::{AllocError, Global};
@@ -117,6 +117,16 @@ fn push_document(
     Ok(Some(JsonKind::Shape(at.path)))
 }
 
+// The place after this one.
+fn next_place(place: usize) -> Result<usize, AllocError>
+    ensures { IfOk result (λ next. next ≡ place + 1) }
+{
+    match place.checked_add(1) {
+        Some(next) => Ok(next),
+        None => Err(no_number_left(place as u64)),
+    }
+}
+
 // Appends what the items of an array say as they are read, up to the first fault, which it gives. The items after that are
 // read nevertheless.
 fn push_array(
@@ -133,7 +143,7 @@ fn push_array(
     'items: while !reader.take_end_array() {
         let item = read(list.alloc, reader, MAX_DEPTH - 1)?;
         met = push_next(list, place, &item, met, out)?;
-        place = place.checked_add(1).ok_or(Unread::Memory)?;
+        place = next_place(place)?;
     }
     Ok(met)
 }

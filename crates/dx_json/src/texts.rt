@@ -1,10 +1,20 @@
 // Texts in one buffer.
 ghost use Rattle.std.specs.Prelude.{◌≡◌, ◌<◌, ◌++◌, ◌∷◌, [], ℕ, List, IfOk, OnOk, OnErr, get_or, length};
 
-use dx_base::Text;
+use dx_base::{Text, no_number_left};
 use std::alloc::{AllocError, Global};
 use std::marker::Model;
 use std::rc::Rc;
+
+/// A count as it is stored.
+pub(crate) fn stored(count: usize) -> Result<u32, AllocError>
+    ensures { IfOk result (λ number. number ≡ count) }
+{
+    match u32::try_from(count) {
+        Ok(number) => Ok(number),
+        Err(_) => Err(no_number_left(count as u64)),
+    }
+}
 
 /// Texts one after the other in one buffer, and where each begins and ends. A contract sees the list of the texts.
 #[derive(Drop)]
@@ -48,11 +58,9 @@ impl Texts {
         ensures ok { OnOk result (self.new ≡ self.old ++ text.now ∷ []) }
         ensures err { OnErr result (self.new ≡ self.old) }
     {
-        let start = self.buffer.len();
+        let start = stored(self.buffer.len())?;
         self.buffer.push_str(text)?;
-        let (Ok(start), Ok(end)) = (u32::try_from(start), u32::try_from(self.buffer.len())) else {
-            return Err(AllocError);
-        };
+        let end = stored(self.buffer.len())?;
         self.spans.push((start, end))?;
         Ok(())
     }
@@ -61,13 +69,9 @@ impl Texts {
     pub fn shared(self, alloc: Global) -> Result<SharedTexts, AllocError>
         ensures { IfOk result (λ texts. texts ≡ self) }
     {
-        match Rc::new(alloc, self.buffer) {
-            Ok(buffer) => Ok(SharedTexts {
-                buffer,
-                spans: self.spans,
-            }),
-            Err(_) => Err(AllocError),
-        }
+        let Texts { buffer, spans } = self;
+        let buffer = Rc::new(alloc, buffer)?;
+        Ok(SharedTexts { buffer, spans })
     }
 }
 
