@@ -145,8 +145,8 @@ class Clashes:
 
 
 def plain(literal):
-    """The text of a string of the mapping text."""
-    return re.sub(r"\\(.)", r"\1", literal[1:-1], flags=re.DOTALL)
+    """The text of a string of a message, in which `\\u{..}` is a character that was not printed."""
+    return re.sub(r"\\(?:u\{([0-9a-f]+)\}|(.))", lambda found: found[2] or chr(int(found[1], 16)), literal[1:-1], flags=re.DOTALL)
 
 
 def explain(message, content):
