@@ -1,6 +1,6 @@
 -- What two mappings must have in common, on small ones: no conditions, and no conversions; and whose fault it is.
-use Rattle.std.proofs.Common.{◌≡◌, [], ◌∷◌, refl, inl, inr, Bool, true, false, ap, sym}
-use Rattle.dx_base.specs.Members.{here, there}
+use Rattle.std.proofs.Common.{◌≡◌, List, [], ◌∷◌, refl, inl, inr, Bool, true, false, ap, sym}
+use Rattle.dx_base.specs.Members.{◌∈◌, here, there}
 use Rattle.dx_model.specs.declared.rules.Rule.{Rule}
 use Rattle.dx_schema.specs.Forest.{none}
 use Rattle.clio_accept.specs.declared.mapping.Mapping.{Mapping}
