@@ -27,7 +27,7 @@ import tempfile
 from collections.abc import Callable, Iterator
 from typing import Any, Protocol
 
-import homomorphisms
+from homomorphisms import homomorphism
 from clio_tools.databases.postgres import Session, literal
 from clio_tools.mapping.text import Mapping
 from clio_tools.sql.chase import Clash
@@ -69,7 +69,8 @@ class OneServer:
 
     def load(self, folder: pathlib.Path) -> None:
         tables, rows = source_of(folder)
-        self.session.run("SET client_min_messages = error; DROP SCHEMA IF EXISTS source, target CASCADE; CREATE SCHEMA source")
+        self.session.run("SET client_min_messages = error; DROP SCHEMA IF EXISTS source, target CASCADE;"
+                         "CREATE SCHEMA source")
         self.make_source(tables)
         for table in tables:
             if rows.get(table.name):
@@ -79,7 +80,8 @@ class OneServer:
     def make_source(self, tables: list[Any]) -> None:
         """Empty tables of the source."""
         for table in tables:
-            self.session.run(f'CREATE TABLE source."{table.name}" (' + ", ".join(f'"{column}" text' for column in table.columns) + ")")
+            listed = ", ".join(f'"{column}" text' for column in table.columns)
+            self.session.run(f'CREATE TABLE source."{table.name}" ({listed})')
 
     def exchange(self, core: bool) -> None:
         engine = Engine(self.connection, self.sessions)
@@ -122,8 +124,10 @@ class Files:
         tables, rows = source_of(folder)
         with contextlib.closing(sqlite3.connect("source.db")) as base, base:
             for table in tables:
-                base.execute(f'CREATE TABLE "{table.name}" (' + ", ".join(f'"{column}" TEXT' for column in table.columns) + ")")
-                base.executemany(f'INSERT INTO "{table.name}" VALUES ({", ".join("?" * len(table.columns))})', rows.get(table.name, ()))
+                listed = ", ".join(f'"{column}" TEXT' for column in table.columns)
+                marks = ", ".join("?" * len(table.columns))
+                base.execute(f'CREATE TABLE "{table.name}" ({listed})')
+                base.executemany(f'INSERT INTO "{table.name}" VALUES ({marks})', rows.get(table.name, ()))
 
     def exchange(self, core: bool) -> None:
         engine = Sqlite("source.db", "target.db")
@@ -146,7 +150,8 @@ class Compared:
     def by_clio(self) -> int:
         """The status of clio."""
         shutil.rmtree(self.folder / "out", ignore_errors=True)
-        return subprocess.run(["clio", "exchange", *["--core"] * self.core], cwd=self.folder, capture_output=True, check=False, timeout=60).returncode
+        words = ["clio", "exchange", *["--core"] * self.core]
+        return subprocess.run(words, cwd=self.folder, capture_output=True, check=False, timeout=60).returncode
 
     def made(self) -> tuple[dict[str, Rows] | None, str]:
         """How clio-sql ends: its tables, or None at a clash, and what it says."""
@@ -169,7 +174,8 @@ class Compared:
         self.tables = [*self.mapping.target, *written_too]
         tables, said = self.made()
         if (status == 3) != (tables is None):
-            raise Differs(f"clio ends with {status}, and clio-sql {'with a clash' if tables is None else 'without one'}")
+            how = "with a clash" if tables is None else "without one"
+            raise Differs(f"clio ends with {status}, and clio-sql {how}")
         if tables is None:
             return "exchanges that end with a clash"
         written = {name: rows_of(self.folder / "out" / f"{name}.csv") for name in tables}
@@ -198,7 +204,8 @@ class Compared:
         for name in tables.keys() - {"nulls", "fold"}:
             if len(tables[name]) != len(written[name]) or len(set(tables[name])) != len(tables[name]):
                 raise Differs(f"{name} has {len(tables[name])} rows, and clio's core {len(written[name])}")
-        if not homomorphisms.homomorphism(ascending(one), other) or not homomorphisms.homomorphism(ascending(other), one):
+        onto, back = homomorphism(ascending(one), other), homomorphism(ascending(other), one)
+        if onto is None or back is None:
             raise Differs("the target and clio's core don't map into each other")
         standing = {read_value(row[0]) for row in tables["nulls"]}
         fold = {read_value(null): read_value(value) for null, value in tables["fold"]}
@@ -210,7 +217,8 @@ class Compared:
 
     def facts(self, tables: dict[str, Rows]) -> set[Fact]:
         """The rows of tables as facts."""
-        return {Fact(number, tuple(map(read_value, row))) for number, table in enumerate(self.mapping.target) for row in tables[table.name]}
+        return {Fact(number, tuple(map(read_value, row))) for number, table in enumerate(self.mapping.target)
+                for row in tables[table.name]}
 
     def canonical(self) -> set[Fact]:
         """What the rules make."""
@@ -269,7 +277,8 @@ class Trial:
             self.counts["examples"] += self.run(folder, f"examples/{example.parent.name}")
 
     def end(self) -> int:
-        self.say(", ".join(f"{amount} {what}" for what, amount in sorted(self.counts.items())) + f"; {self.differences} differences")
+        counted = ", ".join(f"{amount} {what}" for what, amount in sorted(self.counts.items()))
+        self.say(f"{counted}; {self.differences} differences")
         return self.differences
 
 

@@ -1,7 +1,7 @@
 """The jobs on which clio-sql is measured: a mapping, the queries that make its source, and SQL by hand for the same.
 
-The SQL by hand orders by bytes, as the names of nulls ask. It makes its tables in the schema hand: for the first two jobs all that clio-sql
-makes, with nulls and fold, for the others the tables of the target alone.
+The SQL by hand orders by bytes, as the names of nulls ask. It makes its tables in the schema hand: for the first two
+jobs all that clio-sql makes, with nulls and fold, for the others the tables of the target alone.
 """
 from collections.abc import Callable
 from dataclasses import dataclass
@@ -12,7 +12,7 @@ C = ' COLLATE "C"'
 
 @dataclass
 class Job:
-    """A mapping, whether a core is made, the queries that make its source tables of so many rows, and the SQL by hand."""
+    """A mapping, the queries that make its source tables of so many rows, SQL by hand, and whether a core is made."""
     name: str
     text: str
     make: Callable[[int], dict[str, str]]
@@ -44,7 +44,8 @@ line a.x -> t.x;
 line b.id -> t.id;
 line b.y -> t.y;
 """, lambda rows: {"a": f"SELECT 'k' || i AS id, 'x' || i % 9973 AS x FROM {NUMBERS.format(rows // 2)}",
-                   "b": f"SELECT 'k' || i + {rows // 4} AS id, 'y' || i % 7919 AS y FROM {NUMBERS.format(rows // 2)}"}, f"""
+                   "b": f"SELECT 'k' || i + {rows // 4} AS id, 'y' || i % 7919 AS y"
+                        f" FROM {NUMBERS.format(rows // 2)}"}, f"""
 CREATE UNLOGGED TABLE hand.r AS SELECT *, row_number() OVER (ORDER BY id{C}, x{C}) - 1 AS k
  FROM (SELECT DISTINCT id, x FROM source.a) AS q;
 CREATE UNLOGGED TABLE hand.s AS SELECT *, row_number() OVER (ORDER BY id{C}, y{C}) - 1 AS l
@@ -91,8 +92,8 @@ def demo_source(rows: int) -> dict[str, str]:
 def demo_by_hand(names: str) -> str:
     """The demo by hand, with the names for which a number is made up."""
     return f"""
-CREATE UNLOGGED TABLE hand.u AS SELECT '?0.0.' || (row_number() OVER (ORDER BY dname{C}, city{C}) - 1) AS id, dname, city
- FROM (SELECT DISTINCT dname, city FROM source.dept) AS q;
+CREATE UNLOGGED TABLE hand.u AS SELECT '?0.0.' || (row_number() OVER (ORDER BY dname{C}, city{C}) - 1) AS id,
+ dname, city FROM (SELECT DISTINCT dname, city FROM source.dept) AS q;
 CREATE UNLOGGED TABLE hand.e AS SELECT eid, name, dname, city,
  row_number() OVER (ORDER BY eid{C}, name{C}, dname{C}, city{C}) - 1 AS k
  FROM (SELECT DISTINCT eid, name, dname, city FROM source.emp JOIN source.dept USING (dname)) AS q;

@@ -1,9 +1,10 @@
 """Measures clio-sql in PostgreSQL: dev/measure-sql [copy | fusion | demo | core | ids].. [SIZE..]
 
-For each job (all if none is named) and each number of rows in the source (100000 if there is none) it makes the source in a server of its own in a
-temporary folder, runs `clio-sql postgres`, SQL by hand for the same (jobs.py) and clio, one after the other, and prints a row of a table: seconds by
-the clock and of processors (of server and tool), how the second grew over how much the size did, and how much disk the server took at most.
-All have to make the same rows, by their number and a sum of hashes (clio: by their number).
+For each job (all if none is named) and each number of rows in the source (100000 if there is none) it makes the
+source in a server of its own in a temporary folder, runs `clio-sql postgres`, SQL by hand for the same (jobs.py) and
+clio, one after the other, and prints a row of a table: seconds by the clock and of processors (of server and tool),
+how the second grew over how much the size did, and how much disk the server took at most. All have to make the same
+rows, by their number and a sum of hashes (clio: by their number).
 """
 import os
 import pathlib
@@ -41,11 +42,13 @@ class Disk(threading.Thread):
 
 
 class Run:
-    """A command in a folder: what it printed, and its seconds, by the clock and of processors, the server's with them."""
+    """A command in a folder: what it printed, and its seconds, by the clock and of processors, the server's with
+    them."""
 
     def __init__(self, command: list[Any], folder: pathlib.Path, server: Postgres) -> None:
         before, began = self.processors(server), time.monotonic()
-        done = subprocess.run(command, cwd=folder, stdin=subprocess.DEVNULL, capture_output=True, text=True, check=False)
+        done = subprocess.run(command, cwd=folder, stdin=subprocess.DEVNULL, capture_output=True, text=True,
+                              check=False)
         self.seconds = time.monotonic() - began
         time.sleep(1)  # until the server has seen its own processes end
         self.processor = self.processors(server) - before
@@ -91,13 +94,15 @@ class Measured:
 
     def by_hand(self) -> Run:
         """The run of the SQL by hand, whose tables have to be those of clio-sql."""
-        self.server.run(self.folder, "SET client_min_messages = error; DROP SCHEMA IF EXISTS hand CASCADE; CREATE SCHEMA hand; CHECKPOINT")
+        self.server.run(self.folder, "SET client_min_messages = error; DROP SCHEMA IF EXISTS hand CASCADE;"
+                                     "CREATE SCHEMA hand; CHECKPOINT")
         (self.folder / "hand.sql").write_text(self.job.by_hand)
         words = ["psql", "-X", "-q", "-v", "ON_ERROR_STOP=1", "-f", "hand.sql", *self.server.place]
         run = Run(words, self.folder, self.server)
         if run.refused:
             sys.exit(f"{self.job.name} by hand: {run.told}")
-        names = [line.split()[2].removeprefix("hand.") for line in self.job.by_hand.split("\n") if line.startswith("CREATE TABLE")]
+        made = [line for line in self.job.by_hand.split("\n") if line.startswith("CREATE TABLE")]
+        names = [line.split()[2].removeprefix("hand.") for line in made]
         hashes = "0" if self.job.core else "sum(hashtext(t::text))"  # by hand other nulls stay in a core
         for name in names:
             one, other = (self.server.run(self.folder, f"SELECT count(*), {hashes} FROM {schema}.{name} AS t")
@@ -130,8 +135,8 @@ def measure(measured: Measured, before: tuple[int, float] | None) -> tuple[int, 
     clio = measured.by_clio(run.said)
     growth = f"{run.processor / before[1] / (rows / before[0]):.2f}" if before else ""
     ratio = run.processor / hand.processor
-    print(f"| {measured.job.name} | {rows:,} | {run.shown()} | {growth} | {disk:.1f} | {hand.shown()} | {ratio:.1f} | {clio}"
-          f" | {os.getloadavg()[0]:.0f} |", flush=True)
+    print(f"| {measured.job.name} | {rows:,} | {run.shown()} | {growth} | {disk:.1f} | {hand.shown()} | {ratio:.1f}"
+          f" | {clio} | {os.getloadavg()[0]:.0f} |", flush=True)
     return rows, run.processor
 
 

@@ -17,7 +17,7 @@ from clio_tools.sql.script import Script
 from clio_tools.sql.servers import reached, sign
 from clio_tools.sql.words import POSTGRES, SQLITE
 from covers import Covers, CoveredPlaces
-from files import moved, nulls_text, rows_of
+from files import moved, nulls_text
 from homomorphisms import core_of, homomorphism, is_core
 from matches import canonical, facts_of, places_of
 from random_cases import random_case
@@ -61,7 +61,8 @@ class Random(Trial):
         covered = CoveredPlaces(Covers(rules), places)
         nulls = nulls_of(canonical(places))
         self.compare(case, (rules, places), canonical(places), {null: null for null in nulls}, [])
-        self.compare(case, (rules, places), facts_of(covered.uncovered()), {null: covered.fold(null) for null in nulls}, ["--core"])
+        folded = {null: covered.fold(null) for null in nulls}
+        self.compare(case, (rules, places), facts_of(covered.uncovered()), folded, ["--core"])
 
     def put_program(self, case):
         """Puts the program on the path, or a stand-in if it doesn't read the case's version of the text."""
@@ -83,7 +84,8 @@ class Random(Trial):
         (self.folder / "source.db").unlink(missing_ok=True)
         with sqlite3.connect(self.folder / "source.db") as base:
             for number, table in enumerate(case.mapping.source):
-                base.execute('CREATE TABLE "%s" (%s)' % (table.name, ", ".join(f'"{column}" TEXT' for column in table.columns)))
+                listed = ", ".join(f'"{column}" TEXT' for column in table.columns)
+                base.execute(f'CREATE TABLE "{table.name}" ({listed})')
                 marks = ", ".join("?" * len(table.columns))
                 base.executemany(f'INSERT INTO "{table.name}" VALUES ({marks})', case.instance.get(number, ()))
         base.close()
@@ -104,7 +106,8 @@ class Random(Trial):
                      for row in base.execute(f'SELECT * FROM "{table.name}"')}
             folded = {read_value(null): read_value(value) for null, value in base.execute("SELECT * FROM fold")}
             counted = base.execute("SELECT count(*) FROM nulls").fetchone()[0]
-            rows = sum(base.execute(f'SELECT count(*) FROM "{table.name}"').fetchone()[0] for table in case.mapping.target)
+            rows = sum(base.execute(f'SELECT count(*) FROM "{table.name}"').fetchone()[0]
+                       for table in case.mapping.target)
         self.assertEqual((rows, counted), (len(found), nulls_text(found, *made)[1]))
         if "reduced by clio" in said:
             self.compare_core(target, found, fold, folded)
@@ -121,7 +124,7 @@ class Random(Trial):
         self.assertIsNotNone(homomorphism(ascending(target), found))
         onto = lambda value: folded.get(fold.get(value, value), fold.get(value, value))  # noqa: E731
         self.assertEqual(image(target, onto), found)
-        self.assertEqual({null: onto(null) for null in fold} | {null: value for null, value in folded.items() if null not in fold}, folded)
+        self.assertEqual(folded | {null: onto(null) for null in fold}, folded)
 
 
 class Wide(Trial):
@@ -132,7 +135,8 @@ class Wide(Trial):
         columns = "abcdefg"
         sets = "".join(f"set {name} {{ i, {', '.join(columns)}; }} " for name in names)
         phones = ", ".join(f"phone(i, {column})" for column in columns)
-        rules = "".join(f"rule {name}(i, {', '.join(columns)}) -> {phones}, card(i, {', '.join(columns)}, more);\n" for name in names)
+        listed = ", ".join(columns)
+        rules = "".join(f"rule {name}(i, {listed}) -> {phones}, card(i, {listed}, more);\n" for name in names)
         target = f"set phone {{ id, number; }} set card {{ id, {', '.join(columns)}, more; }}"
         self.file("mapping.clio", f"mapping 1;\nsource {{ {sets}}}\ntarget {{ {target} }}\n{rules}")
         with contextlib.closing(sqlite3.connect(self.folder / "source.db")) as base, base:
@@ -146,11 +150,13 @@ class Wide(Trial):
 
     def test_one_rule(self):
         self.wide("p")
-        self.assertEqual(self.printed("clio-sql", "sqlite", "--core", "source.db", "target.db"), "phone 7\ncard 1\nnulls 8\nfold 0\n")
+        printed = self.printed("clio-sql", "sqlite", "--core", "source.db", "target.db")
+        self.assertEqual(printed, "phone 7\ncard 1\nnulls 8\nfold 0\n")
 
     def test_two_rules(self):
         self.wide("p", "q")
-        self.assertEqual(self.printed("clio-sql", "sqlite", "--core", "source.db", "target.db"), "phone 7\ncard 1\nnulls 8\nfold 1\n")
+        printed = self.printed("clio-sql", "sqlite", "--core", "source.db", "target.db")
+        self.assertEqual(printed, "phone 7\ncard 1\nnulls 8\nfold 1\n")
 
 
 MARKED = ["", "?", "??", "?0.0.0", "c", "cx", "n", "n00000.00000.0000000000", "'", '"', "a,b", "\n", "é"]
@@ -183,11 +189,14 @@ class Texts(Trial):
                 base.executemany(f"INSERT INTO {name} VALUES (?, ?)", rows)
 
     def test_equal_to_clio(self):
-        self.load(a=[[text, text] for text in MARKED], b=[[text, MARKED[-place]] for place, text in enumerate(MARKED[3:])])
+        self.load(a=[[text, text] for text in MARKED],
+                  b=[[text, MARKED[-place]] for place, text in enumerate(MARKED[3:])])
         self.assertEqual(self.clio("exchange")[0], 0)
         self.printed("clio-sql", "sqlite", "source.db", "target.db")
         with contextlib.closing(sqlite3.connect(self.folder / "target.db")) as base:
-            for name, columns in ("t", "kxy"), ("u", "xz"), ("w", "lr"), ("nulls", ["null", "variable", "value"]), ("fold", ["null", "value"]):
+            written = {"t": "kxy", "u": "xz", "w": "lr", "nulls": ["null", "variable", "value"],
+                       "fold": ["null", "value"]}
+            for name, columns in written.items():
                 wanted = sorted(map(tuple, read_table(self.folder / "out" / f"{name}.csv", list(columns))))
                 self.assertEqual(sorted(base.execute(f"SELECT * FROM {name}")), wanted)
 
@@ -209,7 +218,8 @@ class Words(Trial):
         self.refused("clio-sql", "postgres", "--servers", "servers.txt", why="servers.txt")
 
     def test_no_server_is_told_by_a_password(self):
-        for line in "host", "host='a", "host=a b", "HOST=a", "host=a passwd=TOPSECRET", "postgresql://clio:TOPSECRET@a/b?passwd=x", "password=TOP SECRET host=a":
+        for line in ("host", "host='a", "host=a b", "HOST=a", "host=a passwd=TOPSECRET", "password=TOP SECRET host=a",
+                     "postgresql://clio:TOPSECRET@a/b?passwd=x"):
             self.file("servers.txt", f"host=a\n\n{line}\n")
             self.file("mapping.clio", TWO)
             status, out, said = self.tool("clio-sql", "postgres", "--servers", "servers.txt")
@@ -220,7 +230,8 @@ class Words(Trial):
 
     def test_a_server_is_told_by_how_it_is_reached(self):
         try:
-            one, other, again = reached(["host=a dbname=x user=u", "host=b dbname=x user=u", " dbname = y  host='a' user=v password='it\\'s \\\\ old' "])
+            one, other, again = reached(["host=a dbname=x user=u", "host=b dbname=x user=u",
+                                         " dbname = y  host='a' user=v password='it\\'s \\\\ old' "])
             same, = reached(["postgresql://w@a/x"])
         except Refused as why:
             self.assertIn("psycopg", str(why))
@@ -266,7 +277,8 @@ class SameFile(Trial):
 
     def test_a_table_of_others_is_refused(self):
         self.base("t.db", "CREATE TABLE t (mine TEXT)", "INSERT INTO t VALUES ('kept')")
-        self.refused("clio-sql", "sqlite", "s.db", "t.db", why="has a table t with other columns, which clio-sql didn't make")
+        why = "has a table t with other columns, which clio-sql didn't make"
+        self.refused("clio-sql", "sqlite", "s.db", "t.db", why=why)
         self.assertEqual(self.base("t.db", "SELECT * FROM t"), [("kept",)])
 
     def test_a_view_goes_on(self):
@@ -279,7 +291,8 @@ class SameFile(Trial):
 
     def test_a_clash_leaves_the_target(self):
         self.printed("clio-sql", "sqlite", "s.db", "t.db")
-        self.file("mapping.clio", "mapping 1; source { set t { x, y; } } target { set t { p, q; key (p); } } line t.x -> t.p; line t.y -> t.q;")
+        self.file("mapping.clio", "mapping 1; source { set t { x, y; } } target { set t { p, q; key (p); } }"
+                                  "line t.x -> t.p; line t.y -> t.q;")
         self.base("s.db", "INSERT INTO t VALUES ('1', 'other')")
         self.assertEqual(self.tool("clio-sql", "sqlite", "s.db", "t.db")[0], 3)
         self.assertEqual(self.base("t.db", "SELECT * FROM t"), [("1", "?0.0.0")])
@@ -297,7 +310,8 @@ class SameFile(Trial):
             printed = self.printed("clio-sql", "sqlite", *core, "--explain", "s.db", "none.db")
             self.assertIn('CREATE TABLE target."t" AS SELECT', printed)
         self.assertFalse((self.folder / "none.db").exists())
-        self.assertIn("CREATE UNLOGGED TABLE", self.printed("clio-sql", "postgres", "--explain", "--core", "host=nowhere.invalid"))
+        printed = self.printed("clio-sql", "postgres", "--explain", "--core", "host=nowhere.invalid")
+        self.assertIn("CREATE UNLOGGED TABLE", printed)
 
 
 if __name__ == "__main__":

@@ -44,9 +44,10 @@ class Server(Trial):
         self.place = SERVER.place[0]
         self.session = Session(self.place, client_min_messages="error")
         self.addCleanup(self.session.close)
-        self.session.run("DROP SCHEMA IF EXISTS source, target, clio CASCADE; DROP VIEW IF EXISTS v; CREATE SCHEMA source;"
-                         "CREATE TABLE source.a (k text, x text); CREATE TABLE source.b (k text, y text);"
-                         "INSERT INTO source.a VALUES ('1', 'one'), ('2', '?two'); INSERT INTO source.b VALUES ('1', 'uno'), ('3', '')")
+        self.session.run("DROP SCHEMA IF EXISTS source, target, clio CASCADE; DROP VIEW IF EXISTS v;"
+                         "CREATE SCHEMA source;"
+                         "CREATE TABLE source.a AS SELECT * FROM (VALUES ('1', 'one'), ('2', '?two')) AS v(k, x);"
+                         "CREATE TABLE source.b AS SELECT * FROM (VALUES ('1', 'uno'), ('3', '')) AS v(k, y)")
         self.file("mapping.clio", TWO)
 
     def made(self, *words):
@@ -65,9 +66,11 @@ class Server(Trial):
 
     def begun(self, *words):
         """A run that was begun in the background."""
-        run = subprocess.Popen([sys.executable, "-B", TOOLS / "clio-sql", "postgres", *words, self.place], cwd=self.folder, stdout=subprocess.DEVNULL,
-                               stderr=subprocess.PIPE, text=True)
+        command = [sys.executable, "-B", TOOLS / "clio-sql", "postgres", *words, self.place]
+        run = subprocess.Popen(command, cwd=self.folder, stdout=subprocess.DEVNULL, stderr=subprocess.PIPE, text=True,
+                               preexec_fn=lambda: signal.signal(signal.SIGINT, signal.SIG_DFL))  # as on a terminal
         self.addCleanup(run.stderr.close)
+        self.addCleanup(run.kill)
         return run
 
     def wait_until(self, query):
@@ -88,13 +91,15 @@ class Whole(Server):
                 self.file(f"{name}.csv", f"{','.join(columns)}\n{rows}")
             self.made(*words)
             self.assertEqual(self.clio("exchange", *(word for word in words if word == "--core"))[0], 0)
-            columns = {"t": list("kxy"), "u": list("xz"), "nulls": ["null", "variable", "value"], "fold": ["null", "value"]}
-            written = [sorted(map(tuple, read_table(self.folder / "out" / f"{name}.csv", listed))) for name, listed in columns.items()]
+            columns = {"t": "kxy", "u": "xz", "nulls": ["null", "variable", "value"], "fold": ["null", "value"]}
+            written = [sorted(map(tuple, read_table(self.folder / "out" / f"{name}.csv", list(listed))))
+                       for name, listed in columns.items()]
             self.assertEqual(self.target(), written)
             self.assertEqual(self.schemas(), [])
 
     def test_a_schema_of_others_stays(self):
-        self.session.run("CREATE SCHEMA clio; CREATE TABLE clio.mine AS SELECT 1 AS one; CREATE VIEW public.v AS SELECT * FROM clio.mine")
+        self.session.run("CREATE SCHEMA clio; CREATE TABLE clio.mine AS SELECT 1 AS one;"
+                         "CREATE VIEW public.v AS SELECT * FROM clio.mine")
         self.made()
         self.made("--sessions", "2")
         self.assertEqual(self.session.value("SELECT one FROM public.v"), "1")
@@ -102,7 +107,8 @@ class Whole(Server):
 
     def test_what_hangs_on_the_target_goes_on(self):
         self.made()
-        self.session.run("CREATE VIEW v AS SELECT x FROM target.u; CREATE INDEX i ON target.u (x); CREATE TABLE target.mine AS SELECT 1 AS one;"
+        self.session.run("CREATE VIEW v AS SELECT x FROM target.u; CREATE INDEX i ON target.u (x);"
+                         "CREATE TABLE target.mine AS SELECT 1 AS one;"
                          "UPDATE source.a SET x = 'new' WHERE k = '1'")
         for words in [], ["--sessions", "2"]:
             self.made(*words)
@@ -111,7 +117,8 @@ class Whole(Server):
             self.assertEqual(self.session.value("SELECT one FROM target.mine"), "1")
         before = self.target()
         self.file("mapping.clio", TWO.replace("u { x, z; }", "u { x, w; }"))
-        self.refused("clio-sql", "postgres", self.place, why="something hangs on target.u, which is to have other columns now")
+        why = "something hangs on target.u, which is to have other columns now"
+        self.refused("clio-sql", "postgres", self.place, why=why)
         self.assertEqual(self.target(), before)
 
     def test_a_table_of_others_is_refused(self):
@@ -157,7 +164,8 @@ class Interrupted(Server):
         self.assertEqual(self.target(), self.before)
 
     def test_interrupted(self):
-        for words, number, status in ([], signal.SIGINT, 130), (["--sessions", "2"], signal.SIGINT, 130), ([], signal.SIGTERM, 143):
+        ways = ([], signal.SIGINT, 130), (["--sessions", "2"], signal.SIGINT, 130), ([], signal.SIGTERM, 143)
+        for words, number, status in ways:
             run = self.begun(*words)
             self.waits()
             run.send_signal(number)
@@ -201,7 +209,8 @@ class Interrupted(Server):
         self.reader.run("ROLLBACK")
         for words in [], ["--sessions", "2"]:
             self.session.run("DELETE FROM source.a WHERE k LIKE 'more%'")
-            self.reader.run("BEGIN; LOCK TABLE source.b IN ACCESS EXCLUSIVE MODE; INSERT INTO source.b SELECT 'more' || i, 'y' FROM generate_series(1, 50) AS i")
+            self.reader.run("BEGIN; LOCK TABLE source.b IN ACCESS EXCLUSIVE MODE;"
+                            "INSERT INTO source.b SELECT 'more' || i, 'y' FROM generate_series(1, 50) AS i")
             run = self.begun(*words)  # which reads a, and waits for b
             self.waits()
             self.reader.run("INSERT INTO source.a SELECT 'more' || i, 'z' FROM generate_series(1, 50) AS i; COMMIT")
@@ -212,7 +221,8 @@ class Interrupted(Server):
 
 class Secrets(Server):
     def test_no_password_is_told(self):
-        for connection in f"{self.place} password=TOPSECRET dbname=none", "host=x passwd=TOPSECRET", "password=TOP SECRET":
+        words = f"{self.place} password=TOPSECRET dbname=none", "host=x passwd=TOPSECRET", "password=TOP SECRET"
+        for connection in words:
             status, out, said = self.tool("clio-sql", "postgres", connection)
             self.assertEqual((status, out), (2, ""))
             self.assertNotIn("SECRET", said)
@@ -233,7 +243,8 @@ class Secrets(Server):
         said = (SERVER.base / "log").read_text(encoding="utf-8")
         self.assertIn("CREATE FOREIGN TABLE", said)
         self.assertNotIn("TOPSECRET", said)
-        self.session.run("DROP SCHEMA source, target CASCADE; DROP EXTENSION postgres_fdw CASCADE; DROP SCHEMA clio_servers CASCADE")
+        self.session.run("DROP SCHEMA source, target CASCADE; DROP EXTENSION postgres_fdw CASCADE;"
+                         "DROP SCHEMA clio_servers CASCADE")
         for name in self.schemas():
             self.session.run(f"DROP SCHEMA {name} CASCADE")
 
@@ -244,7 +255,8 @@ class Disk(Server):
         before = self.target()
         self.session.run("ALTER DATABASE postgres SET temp_file_limit = 0")  # as a full disk, for what is sorted
         self.addCleanup(self.session.run, "ALTER DATABASE postgres RESET ALL")
-        self.session.run("ALTER DATABASE postgres SET work_mem = '64kB'; INSERT INTO source.a SELECT 'many' || i, 'x' || i FROM generate_series(1, 20000) AS i")
+        self.session.run("ALTER DATABASE postgres SET work_mem = '64kB';"
+                         "INSERT INTO source.a SELECT 'many' || i, 'x' || i FROM generate_series(1, 20000) AS i")
         self.refused("clio-sql", "postgres", self.place, why="the target is as it was")
         self.assertEqual((self.target(), self.schemas()), (before, []))
 
