@@ -1,4 +1,6 @@
-"""clio-ids over histories of ten loads, with rows changed, added and removed in each, against a plain model of which thing is which."""
+"""clio-ids over histories of ten loads, with rows changed, added and removed in each, against a plain model of which
+thing is which.
+"""
 import os
 import pathlib
 import random
@@ -9,7 +11,7 @@ from typing import NamedTuple
 
 from trial import PROGRAM, TIMES
 
-from clio_tools.csv import read_table, record_text
+from clio_tools.csv import read_table, write_table
 from clio_tools.ids.crosswalk import Crosswalk
 from clio_tools.ids.numbering import number
 from clio_tools.mapping.text import read_sets
@@ -27,6 +29,7 @@ rule orders(n, m, t, s, w, l) -> sale(n, c, p), customer(c, m, t, f), place(p, s
 rule item(n, s) -> sold(n, s);
 """
 LOADS, HISTORIES = 10, 8
+Values = tuple[object, ...]  # those of the keys of a thing
 
 
 class Order(NamedTuple):
@@ -50,12 +53,14 @@ class World:
 
     def free(self, kind: int, letter: str) -> str:
         """A mail or tax number that nobody has now; it may have been another's."""
-        return self.choice.choice([one for one in (f"{letter}{number}" for number in range(8)) if all(one != person[kind] for person in self.people)])
+        return self.choice.choice([one for one in (f"{letter}{number}" for number in range(8))
+                                   if all(one != person[kind] for person in self.people)])
 
     def step(self) -> None:
         """Some changes."""
         for _ in range(self.choice.randrange(1, 6)):
-            self.choice.choice([self.change_person, self.exchange_mails, self.put_order, self.put_order, self.take_order, self.put_item, self.take_item])()
+            self.choice.choice([self.change_person, self.exchange_mails, self.put_order, self.put_order,
+                                self.take_order, self.put_item, self.take_item])()
 
     def change_person(self) -> None:
         place, kind = self.choice.randrange(len(self.people)), self.choice.randrange(3)
@@ -88,7 +93,9 @@ class World:
 
 
 class Things:
-    """Which thing is which, as the manual says it: by its keys, the first one first; without a key by the sale in which it stands."""
+    """Which thing is which, as the manual says it: by its keys, the first one first; without a key by the sale in which
+    it stands.
+    """
 
     def __init__(self) -> None:
         self.count = 0
@@ -100,9 +107,9 @@ class Things:
         self.count += 1
         return self.count
 
-    def load(self, set_name: str, keys: dict[tuple[object, ...], list[str]], letter: str) -> dict[tuple[object, ...], int]:
+    def load(self, set_name: str, keys: dict[Values, list[str]], letter: str) -> dict[Values, int]:
         """The things of a set, each given by the values of its keys, with the sales in which it stands."""
-        found: dict[tuple[object, ...], int] = {}
+        found: dict[Values, int] = {}
         for place in range(len(next(iter(keys), ()))):
             for values in keys:
                 self.claim(found, values, self.by_key.get((set_name, place, values[place])))
@@ -111,13 +118,16 @@ class Things:
                 self.claim(found, values, self.by_sale.get((letter, sale)))
         for values, sales in keys.items():
             found.setdefault(values, self.new())
-            self.by_sale = {place: thing for place, thing in self.by_sale.items() if thing != found[values] and place not in [(letter, sale) for sale in sales]}
+            here = [(letter, sale) for sale in sales]
+            self.by_sale = {place: thing for place, thing in self.by_sale.items()
+                            if thing != found[values] and place not in here}
         things = set(found.values())
         self.by_key = {key: thing for key, thing in self.by_key.items() if thing not in things}
-        self.by_key.update({(set_name, place, value): found[values] for values in keys for place, value in enumerate(values)})
+        self.by_key.update({(set_name, place, value): found[values]
+                            for values in keys for place, value in enumerate(values)})
         return found
 
-    def claim(self, found: dict[tuple[object, ...], int], values: tuple[object, ...], thing: int | None) -> None:
+    def claim(self, found: dict[Values, int], values: Values, thing: int | None) -> None:
         if thing is not None and values not in found and thing not in self.taken:
             found[values] = thing
             self.taken.add(thing)
@@ -176,13 +186,14 @@ class Histories(unittest.TestCase):
 
     def run_once(self, orders: list[Order], items: set[tuple[str, str]]) -> dict[str, list[list[str]]]:
         """Runs clio and gives numbers; answers the tables of the target."""
-        pathlib.Path("orders.csv").write_text("".join(map(record_text, [list(Order._fields), *map(list, orders)])), encoding="utf-8")
-        pathlib.Path("item.csv").write_text("".join(map(record_text, [["n", "s"], *map(list, sorted(items))])), encoding="utf-8")
+        write_table("orders.csv", list(Order._fields), map(list, orders))
+        write_table("item.csv", ["n", "s"], map(list, sorted(items)))
         subprocess.run([PROGRAM, "exchange"], stdout=subprocess.DEVNULL, check=True)
         tables, crosswalk = read_sets(MAPPING)["target"], Crosswalk("ids.db")
         number(tables, crosswalk, {}, False)
         crosswalk.close()
-        return {table.name: list(read_table(pathlib.Path("out", f"{table.name}.csv"), table.columns)) for table in tables}
+        return {table.name: list(read_table(pathlib.Path("out", f"{table.name}.csv"), table.columns))
+                for table in tables}
 
 
 if __name__ == "__main__":

@@ -96,7 +96,8 @@ class Tools(Trial):
         self.refused("clio-draft", "csv", "in", "--data", "out", why="out/t.csv is a pipe")
 
     def test_report(self) -> None:
-        self.file("mapping.clio", "mapping 1; source { set s { x; } set u { y; } } target { set t { a; } } rule s(x), u(x) -> t(x);")
+        self.file("mapping.clio", "mapping 1; source { set s { x; } set u { y; } } target { set t { a; } }"
+                  "rule s(x), u(x) -> t(x);")
         self.file("s.csv", "x\n1\n2\n")
         self.file("u.csv", "y\n1\n")
         self.assertEqual(self.clio("exchange")[0], 0)

@@ -1,7 +1,8 @@
 """Files that take their place whole or not at all.
 
-A new file is made beside the old one under a name that nobody can foresee, and takes its place when it is whole. So a link there is replaced, and what
-it leads to stays as it was; a pipe, a socket, a device or a folder is refused. No reader sees a part of a file.
+A new file is made beside the old one under a name that nobody can foresee, and takes its place when it is whole. So a
+link there is replaced, and what it leads to stays as it was; a pipe, a socket, a device or a folder is refused. No
+reader sees a part of a file.
 """
 import contextlib
 import hashlib
@@ -14,7 +15,8 @@ from typing import TextIO
 
 from clio_tools.program import Refused
 
-KINDS = {stat.S_IFDIR: "a folder", stat.S_IFIFO: "a pipe", stat.S_IFSOCK: "a socket", stat.S_IFCHR: "a device", stat.S_IFBLK: "a device"}
+KINDS = {stat.S_IFDIR: "a folder", stat.S_IFIFO: "a pipe", stat.S_IFSOCK: "a socket", stat.S_IFCHR: "a device",
+         stat.S_IFBLK: "a device"}
 
 
 def check_place(path: pathlib.Path) -> int | None:

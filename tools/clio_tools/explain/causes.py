@@ -1,10 +1,11 @@
-"""What makes lines mean too much: the target columns that have most ways, and the refs without which there were fewer."""
+"""What makes lines mean too much: target columns with many ways, and the refs without which there were fewer."""
 import dataclasses
 from collections.abc import Callable, Iterator
 from typing import NamedTuple
 
 from clio_tools.explain.said import amount, listed
-from clio_tools.explain.ways import Choice, Occurrence, Term, TooMany, Ways, largest, number_of_choices, reached, terms_of, unfolding, ways_of
+from clio_tools.explain.ways import (Choice, Occurrence, Term, TooMany, Ways, largest, number_of_choices, reached,
+                                     terms_of, unfolding, ways_of)
 from clio_tools.mapping.meaning import Line, Mapping
 from clio_tools.mapping.tables import Link, Table
 
@@ -14,7 +15,9 @@ Measure = Callable[[Ways], int]
 
 
 class Pair(NamedTuple):
-    """A source and a target table, with all that follows from them, and the values that lines give from one to the other."""
+    """A source and a target table, with all that follows from them, and the values that lines give from one to the
+    other.
+    """
     one: int
     other: int
     ways: Ways
@@ -36,7 +39,8 @@ def worst(mapping: Mapping, measure: Measure) -> Pair:
     """The pair with most values."""
     sources = [full(mapping.source, place) for place in range(len(mapping.source))]
     targets = [full(mapping.target, place) for place in range(len(mapping.target))]
-    pairs = (Pair(one, other, ways_of(mapping.lines, source, target)) for one, source in enumerate(sources) for other, target in enumerate(targets))
+    pairs = (Pair(one, other, ways_of(mapping.lines, source, target))
+             for one, source in enumerate(sources) for other, target in enumerate(targets))
     return max(pairs, key=lambda pair: measure(pair.ways))
 
 
@@ -46,15 +50,16 @@ def path(tables: list[Table], occurrences: list[Occurrence], place: int) -> str:
     if occurrence.parent is None:
         return tables[occurrence.table].name
     above = occurrences[occurrence.parent]
-    link = next(link for link in tables[above.table].every_link() if link.table == occurrence.table
-                and all(above.variables[here] == occurrence.variables[there] for here, there in zip(link.own, link.referred)))
+    link = next(link for link in tables[above.table].every_link() if link.table == occurrence.table and all(
+        above.variables[here] == occurrence.variables[there] for here, there in zip(link.own, link.referred)))
     own = listed(tables[above.table].columns[column] for column in link.own)
     return f"{path(tables, occurrences, occurrence.parent)} ({own}) > {tables[occurrence.table].name}"
 
 
 def place_of(occurrences: list[Occurrence], variable: int) -> tuple[int, int]:
     """The first occurrence that has a variable, and its column there."""
-    return next((place, occurrence.variables.index(variable)) for place, occurrence in enumerate(occurrences) if variable in occurrence.variables)
+    return next((place, occurrence.variables.index(variable)) for place, occurrence in enumerate(occurrences)
+                if variable in occurrence.variables)
 
 
 def of_columns(mapping: Mapping, pair: Pair) -> Iterator[str]:
@@ -63,8 +68,9 @@ def of_columns(mapping: Mapping, pair: Pair) -> Iterator[str]:
     for variable, terms in sorted(pair.ways.items(), key=lambda one: -len(one[1]))[:MOST]:
         if len(terms) > 1:
             place, column = place_of(target, variable)
-            yield (f"   {path(mapping.target, target, place)}.{mapping.target[target[place].table].columns[column]} can have "
-                   f"{amount(len(terms), 'value')}, as {listed([shown_term(mapping.source, source, term) for term in sorted(terms)], 3)}")
+            name = mapping.target[target[place].table].columns[column]
+            shown = listed([shown_term(mapping.source, source, term) for term in sorted(terms)], 3)
+            yield f"   {path(mapping.target, target, place)}.{name} can have {amount(len(terms), 'value')}, as {shown}"
 
 
 def shown_term(tables: list[Table], occurrences: list[Occurrence], term: Term) -> str:
@@ -76,8 +82,8 @@ def shown_term(tables: list[Table], occurrences: list[Occurrence], term: Term) -
 def of_lines(mapping: Mapping, pair: Pair) -> Iterator[str]:
     """The lines that give most values."""
     source, target = full(mapping.source, pair.one), full(mapping.target, pair.other)
-    counted = sorted(((len(terms_of(line, source)) * len(reached(line, target)), place) for place, line in enumerate(mapping.lines)
-                      if line.literal is None), reverse=True)
+    counted = sorted(((len(terms_of(line, source)) * len(reached(line, target)), place)
+                      for place, line in enumerate(mapping.lines) if line.literal is None), reverse=True)
     for count, place in counted[:MOST]:
         if count > 1:
             yield f"   {shown_line(mapping, mapping.lines[place])} gives {count:,} of them"
@@ -85,16 +91,18 @@ def of_lines(mapping: Mapping, pair: Pair) -> Iterator[str]:
 
 def shown_line(mapping: Mapping, line: Line) -> str:
     """A line by the names of its columns."""
-    names = listed(f"{mapping.source[one.table].name}.{mapping.source[one.table].columns[one.column]}" for one in line.columns)
+    tables = [(mapping.source[one.table], one.column) for one in line.columns]
+    names = listed(f"{table.name}.{table.columns[column]}" for table, column in tables)
     target = mapping.target[line.target.table]
     return f"line {names} -> {target.name}.{target.columns[line.target.column]}"
 
 
 def without(tables: list[Table], number: int, link: Link) -> list[Table]:
     """The tables without a ref."""
-    return [table if place != number else dataclasses.replace(table, links=[one for one in table.links if one is not link],
-                                                                  optional_links=[one for one in table.optional_links if one is not link])
-            for place, table in enumerate(tables)]
+    table = tables[number]
+    less = dataclasses.replace(table, links=[one for one in table.links if one is not link],
+                               optional_links=[one for one in table.optional_links if one is not link])
+    return [*tables[:number], less, *tables[number + 1:]]
 
 
 def of_refs(mapping: Mapping, pair: Pair, measure: Measure, number: int) -> Iterator[str]:
@@ -124,8 +132,9 @@ def of_values(mapping: Mapping, measure: Measure, number: int) -> Iterator[str]:
     """What makes the values of lines too many, in a few lines."""
     try:
         pair = worst(mapping, measure)
-        yield (f"most are from {mapping.source[pair.one].name}, with what its refs lead to, to {mapping.target[pair.other].name} "
-               f"with what its refs lead to: {measure(pair.ways):,}; {number:,} are allowed" + (" in all" if number > 64 else ""))
+        names = mapping.source[pair.one].name, mapping.target[pair.other].name
+        yield (f"most are from {names[0]}, with what its refs lead to, to {names[1]} with what its refs lead to: "
+               f"{measure(pair.ways):,}; {number:,} are allowed" + (" in all" if number > 64 else ""))
         yield from of_columns(mapping, pair)
         yield from of_lines(mapping, pair)
         yield from of_refs(mapping, pair, measure, number)
@@ -139,11 +148,13 @@ def of_variants(tables: list[Table], side: str, number: int) -> Iterator[str]:
         return sum(number_of_choices(some, place) for place in range(len(some)))
     if total(tables) <= number:
         return
-    yield f"the optional refs of the {side} can be followed or not in {total(tables):,} ways in all; {number:,} are allowed"
+    yield (f"the optional refs of the {side} can be followed or not in {total(tables):,} ways in all; "
+           f"{number:,} are allowed")
     ways = sorted(((number_of_choices(tables, place), table.name) for place, table in enumerate(tables)), reverse=True)
     for count, name in ways[:MOST]:
         if count > 1:
             yield f"   from {name}: {count:,}"
-    found = [(total(without(tables, place, link)), shown_ref(tables, place, link)) for place, table in enumerate(tables) for link in table.optional_links]
+    found = [(total(without(tables, place, link)), shown_ref(tables, place, link))
+             for place, table in enumerate(tables) for link in table.optional_links]
     for count, ref in sorted(found)[:MOST]:
         yield f"   without {ref}: {count:,}" + (", which is allowed" if count <= number else "")

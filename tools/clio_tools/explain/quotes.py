@@ -1,4 +1,6 @@
-"""Quoted fields of CSV that were written by other rules than clio reads by: text behind a closing quote, often since a backslash was to escape it."""
+"""Quoted fields of CSV that were written by other rules than clio reads by: text behind a closing quote, often since a
+backslash was to escape it.
+"""
 import re
 from collections.abc import Iterator
 from typing import NamedTuple
@@ -10,7 +12,9 @@ FIELD = re.compile(rb'"((?:[^"]|"")*)(?:"([^,\r\n]*)|\Z)|[^,\r\n]*')
 
 
 class Odd(NamedTuple):
-    """A field with text behind its closing quote: its record and its column (from 0), and whether a backslash is in front of the quote."""
+    """A field with text behind its closing quote: its record and its column (from 0), and whether a backslash is in
+    front of the quote.
+    """
     record: int
     column: int
     is_escaped: bool

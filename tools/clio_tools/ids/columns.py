@@ -19,7 +19,9 @@ def key_columns(table: Set, tables: list[Set]) -> list[int]:
 
 
 def decided(target: Target, crosswalk: Crosswalk, chosen: dict[tuple[str, str], bool]) -> set[tuple[int, int]]:
-    """The places of the columns that have numbers: those of keys and refs with nulls alone, as they were decided when they first had rows."""
+    """The places of the columns that have numbers: those of keys and refs with nulls alone, as they were decided when
+    they first had rows.
+    """
     found = set()
     for place, table in enumerate(target.tables):
         for column in range(len(table.columns)):
@@ -50,7 +52,8 @@ def list_numerals(target: Target, columns: set[tuple[int, int]], numbered: bytea
     held = {(place, column) for place, listed in enumerate(target.cells) for column, cells in enumerate(listed)
             if (place, column) in columns or any(numbered[null] for null in cells if null != NONE)}
     for place, table in enumerate(target.tables):
-        wanted = [column for column in range(len(table.columns)) if (place, column) in held and NONE in target.cells[place][column]]
+        wanted = [column for column in range(len(table.columns))
+                  if (place, column) in held and NONE in target.cells[place][column]]
         if wanted:
             crosswalk.reserve((int(row[column]), place, column) for row in target.rows(table) for column in wanted
                               if NUMERAL.fullmatch(row[column]) and int(row[column]) <= GREATEST)
@@ -60,5 +63,6 @@ def check_numbers(target: Target, crosswalk: Crosswalk) -> None:
     """No number that a thing has is a text in such a column."""
     for number, place, column in crosswalk.taken():
         table = target.tables[place]
-        raise Refused(f"out/{table.name}.csv has the text {number} in column {table.columns[column]}, and {number} is the number of another thing: "
-                      f"give the column another form, or keep its nulls by --keep {table.name}.{table.columns[column]}")
+        name = table.columns[column]
+        raise Refused(f"out/{table.name}.csv has the text {number} in column {name}, and {number} is the number of"
+                      f" another thing: give the column another form, or keep its nulls by --keep {table.name}.{name}")

@@ -2,27 +2,31 @@
 
     clio-ids CROSSWALK [--number SET.COLUMN] [--keep SET.COLUMN] [--nested]
 
-Nulls are named by rule, variable and place, so a surrogate key may have another name after the next row of the source. clio-ids reads what
-`clio exchange` wrote into the folder out, and rewrites it: run it in the folder of the mapping, before clio-tables. The same thing gets the same
-number in each run, a new one a new number. The numbers are kept in CROSSWALK, an SQLite file, which is made by the first run.
+Nulls are named by rule, variable and place, so a surrogate key may have another name after the next row of the source.
+clio-ids reads what `clio exchange` wrote into the folder out, and rewrites it: run it in the folder of the mapping,
+before clio-tables. The same thing gets the same number in each run, a new one a new number. The numbers are kept in
+CROSSWALK, an SQLite file, which is made by the first run.
 
-A null is known by each other key of its own row, the one in which it is itself a key or is referred to: by the key's texts, or the numbers of the
-nulls there. So the `cid` of a customer is known by the customer's name if that is a key. If there is none it is known by the keys of the rows in
-which it stands. In either case it is also known by the text of its rule and the values that nulls.csv has, and so for each null that became this one
-(fold.csv), for which it reads the source files again. If two things become one, one of their numbers stays. A number is never given to a second
-thing.
+A null is known by each other key of its own row, the one in which it is itself a key or is referred to: by the key's
+texts, or the numbers of the nulls there. So the `cid` of a customer is known by the customer's name if that is a key.
+If there is none it is known by the keys of the rows in which it stands. In either case it is also known by the text of
+its rule and the values that nulls.csv has, and so for each null that became this one (fold.csv), for which it reads the
+source files again. If two things become one, one of their numbers stays. A number is never given to a second thing.
 
-A null becomes a number if it stands in a column of a key or a ref that has nulls alone when it first has rows; that is kept for later runs.
-`--number` and `--keep` decide it by hand, and may be repeated. Each other null is a value that nobody knows: it stays one, and gets a name that
-stays, ?999.0.N with N from the same numbers. Rows are written in clio's order. In nulls.csv the first column has the new names and is called `id`; in
-fold.csv they stand in the second. With `--nested` the documents are rewritten too.
+A null becomes a number if it stands in a column of a key or a ref that has nulls alone when it first has rows; that is
+kept for later runs. `--number` and `--keep` decide it by hand, and may be repeated. Each other null is a value that
+nobody knows: it stays one, and gets a name that stays, ?999.0.N with N from the same numbers. Rows are written in
+clio's order. In nulls.csv the first column has the new names and is called `id`; in fold.csv they stand in the second.
+With `--nested` the documents are rewritten too.
 
-It prints how many nulls had a number, and how many are new. The crosswalk is changed before the files are, and each file is replaced as a whole. If
-it is stopped in between, the next run says so: run `clio exchange` again, and the numbers are the same. Run twice, it changes nothing. It refuses a
-number that is a text of such a column already, and files that are not of one run. It is not proved, but has tests.
+It prints how many nulls had a number, and how many are new. The crosswalk is changed before the files are, and each
+file is replaced as a whole. If it is stopped in between, the next run says so: run `clio exchange` again, and the
+numbers are the same. Run twice, it changes nothing. It refuses a number that is a text of such a column already, and
+files that are not of one run. It is not proved, but has tests.
 
-Time grows with the cells and the nulls, some 50 seconds of a busy processor for each million nulls; memory with the nulls alone, a few bytes for each. A target of 4,000,000 cells with
-1,000,000 nulls took 80 seconds and 270 MB, a temporary file of 360 MB (in the folder that SQLITE_TMPDIR names, or /var/tmp), and 300 MB for the crosswalk.
+Time grows with the cells and the nulls, some 50 seconds of a busy processor for each million nulls; memory with the
+nulls alone, a few bytes for each. A target of 4,000,000 cells with 1,000,000 nulls took 80 seconds and 270 MB, a
+temporary file of 360 MB (in the folder that SQLITE_TMPDIR names, or /var/tmp), and 300 MB for the crosswalk.
 """
 import contextlib
 import os

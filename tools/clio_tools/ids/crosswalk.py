@@ -2,14 +2,15 @@
 
     kind       how things are named: by a column of a set, and the columns of a key there, as a list of JSON
     name       by a kind and the key's values (a list of JSON) a number, and what the name is: OWN, OTHER or LED
-    term       by the SHA-256 of a rule, a variable and values the number of what has no other name, and whether a null of it was folded
+    term       by the SHA-256 of a rule, a variable and values the number of what has no other name: RULE or FOLDED
     numbered   which columns have numbers
     written    the SHA-256 of each file that was written last
     next       the next number
 
 A number that has a name OWN has no name OTHER and no term; one that has a name OTHER has no term.
 
-Beside it are tables of the run alone, which SQLite keeps in a file of its own, so that they may be larger than the memory:
+Beside it are tables of the run alone, which SQLite keeps in a file of its own, so that they may be larger than the
+memory:
 
     asked      the names of this run: kind, text, null, and what the name is
     kept       those of them that are in the crosswalk
@@ -34,12 +35,13 @@ SIGN = 0x636C696F  # application_id: the letters clio
 CACHE = 65536  # KiB of each file that are held in memory
 LONGEST = 400  # letters of a key that are kept as they are
 TABLES = """
-    CREATE TABLE kind (kind INTEGER PRIMARY KEY, set_name TEXT NOT NULL, column_name TEXT NOT NULL, key_columns TEXT NOT NULL,
-                       is_key INTEGER NOT NULL, UNIQUE (set_name, column_name, key_columns));
+    CREATE TABLE kind (kind INTEGER PRIMARY KEY, set_name TEXT NOT NULL, column_name TEXT NOT NULL,
+                       key_columns TEXT NOT NULL, is_key INTEGER NOT NULL, UNIQUE (set_name, column_name, key_columns));
     CREATE TABLE name (kind INTEGER NOT NULL, text TEXT NOT NULL, number INTEGER NOT NULL, sureness INTEGER NOT NULL,
                        PRIMARY KEY (kind, text)) WITHOUT ROWID;
     CREATE TABLE term (digest BLOB PRIMARY KEY, number INTEGER NOT NULL, sureness INTEGER NOT NULL) WITHOUT ROWID;
-    CREATE TABLE numbered (set_name TEXT, column_name TEXT, is_numbered INTEGER NOT NULL, PRIMARY KEY (set_name, column_name));
+    CREATE TABLE numbered (set_name TEXT, column_name TEXT, is_numbered INTEGER NOT NULL,
+                           PRIMARY KEY (set_name, column_name));
     CREATE TABLE written (name TEXT PRIMARY KEY, digest BLOB NOT NULL);
     CREATE TABLE next (number INTEGER NOT NULL);
 """
@@ -53,25 +55,29 @@ WORK = """
     CREATE TEMP TABLE number (null_number INTEGER PRIMARY KEY, number INTEGER, is_written INTEGER);
     CREATE TEMP TABLE reserved (number INTEGER PRIMARY KEY, place INTEGER, column_place INTEGER);
 """
-FIND_NAMES = """INSERT INTO kept SELECT a.line, k.number, k.sureness FROM asked AS a CROSS JOIN main.name AS k ON k.kind = a.kind AND k.text = a.text
- WHERE a.line > ?"""
+FIND_NAMES = """INSERT INTO kept SELECT a.line, k.number, k.sureness FROM asked AS a
+ CROSS JOIN main.name AS k ON k.kind = a.kind AND k.text = a.text WHERE a.line > ?"""
 FIND_HINTS = f"""SELECT h.null_number, k.number, {OTHER} AS rank, {OTHER} AS before, h.line FROM hinted AS h
-  CROSS JOIN main.name AS k ON k.kind = h.kind AND k.text = h.text WHERE k.sureness = {OTHER}
- UNION ALL SELECT t.null_number, k.number, t.sureness, k.sureness, t.line FROM told AS t CROSS JOIN main.term AS k ON k.digest = t.digest
- ORDER BY 3, 4, 1, 5"""
-FIND_MOVED = f"""INSERT OR IGNORE INTO moved SELECT a.kind, n.number FROM asked AS a JOIN number AS n ON n.null_number = a.null_number
- LEFT JOIN kept AS k ON k.line = a.line WHERE a.sureness = {OWN} AND n.number < ? AND k.number IS NOT n.number"""
+ CROSS JOIN main.name AS k ON k.kind = h.kind AND k.text = h.text WHERE k.sureness = {OTHER}
+ UNION ALL SELECT t.null_number, k.number, t.sureness, k.sureness, t.line FROM told AS t
+ CROSS JOIN main.term AS k ON k.digest = t.digest ORDER BY 3, 4, 1, 5"""
+FIND_MOVED = f"""INSERT OR IGNORE INTO moved SELECT a.kind, n.number FROM asked AS a
+ JOIN number AS n ON n.null_number = a.null_number LEFT JOIN kept AS k ON k.line = a.line
+ WHERE a.sureness = {OWN} AND n.number < ? AND k.number IS NOT n.number"""
 FORGET_MOVED = f"""DELETE FROM main.name WHERE sureness = {OWN}
  AND EXISTS (SELECT 1 FROM moved AS m WHERE m.kind = main.name.kind AND m.number = main.name.number)"""
-KEEP_NAMES = """INSERT INTO main.name SELECT a.kind, a.text, n.number, a.sureness FROM asked AS a JOIN number AS n ON n.null_number = a.null_number
- LEFT JOIN kept AS k ON k.line = a.line WHERE k.number IS NOT n.number OR k.sureness IS NOT a.sureness
+KEEP_NAMES = """INSERT INTO main.name SELECT a.kind, a.text, n.number, a.sureness FROM asked AS a
+ JOIN number AS n ON n.null_number = a.null_number LEFT JOIN kept AS k ON k.line = a.line
+ WHERE k.number IS NOT n.number OR k.sureness IS NOT a.sureness
   OR EXISTS (SELECT 1 FROM moved AS m WHERE m.kind = a.kind AND m.number = n.number)
- ORDER BY a.kind, a.text ON CONFLICT (kind, text) DO UPDATE SET number = excluded.number, sureness = excluded.sureness"""
-KEEP_TERMS = """INSERT INTO main.term SELECT t.digest, n.number, t.sureness FROM told AS t JOIN number AS n ON n.null_number = t.null_number
- WHERE is_loose(t.null_number) ORDER BY t.digest, t.sureness DESC, t.null_number DESC, t.line DESC
+ ORDER BY a.kind, a.text
+ ON CONFLICT (kind, text) DO UPDATE SET number = excluded.number, sureness = excluded.sureness"""
+KEEP_TERMS = """INSERT INTO main.term SELECT t.digest, n.number, t.sureness FROM told AS t
+ JOIN number AS n ON n.null_number = t.null_number WHERE is_loose(t.null_number)
+ ORDER BY t.digest, t.sureness DESC, t.null_number DESC, t.line DESC
  ON CONFLICT (digest) DO UPDATE SET number = excluded.number, sureness = excluded.sureness"""
-CHANGES = """ FROM kept AS k JOIN asked AS a ON a.line = k.line JOIN number AS n ON n.null_number = a.null_number JOIN main.kind AS d ON d.kind = a.kind
- WHERE k.number <> n.number AND n.is_written ORDER BY a.line"""
+CHANGES = """ FROM kept AS k JOIN asked AS a ON a.line = k.line JOIN number AS n ON n.null_number = a.null_number
+ JOIN main.kind AS d ON d.kind = a.kind WHERE k.number <> n.number AND n.is_written ORDER BY a.line"""
 
 
 class Kind(NamedTuple):
@@ -105,8 +111,9 @@ class Crosswalk:
             self.check()
         except sqlite3.Error as error:
             raise Refused(f"{path}: {error}{in_use(error)}") from None
-        self.kinds: dict[Kind, int] = {Kind(name, column, tuple(json.loads(key))): kind for kind, name, column, key
-                                       in self.base.execute("SELECT kind, set_name, column_name, key_columns FROM kind")}
+        kinds = self.base.execute("SELECT kind, set_name, column_name, key_columns FROM kind")
+        self.kinds: dict[Kind, int] = {Kind(name, column, tuple(json.loads(key))): kind
+                                       for kind, name, column, key in kinds}
 
     def make(self) -> None:
         """The tables of an empty file."""
@@ -136,7 +143,8 @@ class Crosswalk:
     def kind(self, kind: Kind, is_key: bool) -> int:
         """The number of a kind of names; whether its column is a key by itself is kept."""
         number = self.kinds.setdefault(kind, len(self.kinds) + 1)
-        self.base.execute("INSERT INTO kind VALUES (?, ?, ?, ?, ?) ON CONFLICT (kind) DO UPDATE SET is_key = excluded.is_key",
+        self.base.execute("INSERT INTO kind VALUES (?, ?, ?, ?, ?)"
+                          " ON CONFLICT (kind) DO UPDATE SET is_key = excluded.is_key",
                           (number, kind.set, kind.column, json.dumps(kind.key), int(is_key)))
         return number
 
@@ -158,14 +166,15 @@ class Crosswalk:
         return int(str(self.one("SELECT max(line) FROM asked") or 0))
 
     def found(self, since: int, kind: int, sureness: int) -> Iterator[tuple[int, int]]:
-        """Of the names of a kind that were asked after a number, the null and the number kept, in the order of asking."""
+        """Of the names of a kind that were asked after a number, the null and the number kept, as they were asked."""
         return iter(() if self.is_empty else self.base.execute(
-            "SELECT a.null_number, k.number FROM kept AS k JOIN asked AS a ON a.line = k.line"
-            " WHERE k.line > ? AND a.kind = ? AND k.sureness = ? AND a.sureness = k.sureness ORDER BY k.line", (since, kind, sureness)))
+            "SELECT a.null_number, k.number FROM kept AS k JOIN asked AS a ON a.line = k.line WHERE k.line > ?"
+            " AND a.kind = ? AND k.sureness = ? AND a.sureness = k.sureness ORDER BY k.line", (since, kind, sureness)))
 
     def asked(self, since: int, sureness: int) -> Iterator[tuple[int]]:
         """The nulls of the names that were asked after a number."""
-        return self.base.execute("SELECT null_number FROM asked WHERE line > ? AND sureness = ? ORDER BY line", (since, sureness))
+        return self.base.execute("SELECT null_number FROM asked WHERE line > ? AND sureness = ? ORDER BY line",
+                                 (since, sureness))
 
     def tell(self, terms: Iterable[tuple[int, int, str]]) -> None:
         """Takes the terms of nulls, each as null, what it is, and text."""
@@ -212,8 +221,9 @@ class Crosswalk:
     def changes(self, most: int) -> tuple[int, list[Change]]:
         """How many rows have another number than before, and the first of them."""
         count = int(str(self.one("SELECT count(*)" + CHANGES)))
-        rows = self.base.execute("SELECT d.set_name, d.column_name, d.key_columns, a.text, k.number, n.number" + CHANGES + " LIMIT ?", (most,))
-        return count, [Change(Kind(name, column, tuple(json.loads(key))), text, before, now) for name, column, key, text, before, now in rows]
+        rows = self.base.execute("SELECT d.set_name, d.column_name, d.key_columns, a.text, k.number, n.number"
+                                 + CHANGES + " LIMIT ?", (most,))
+        return count, [Change(Kind(name, column, tuple(json.loads(key))), *rest) for name, column, key, *rest in rows]
 
     def keep(self, ranks: bytearray) -> None:
         """Keeps the names with the numbers of their nulls, and the terms of the nulls that have no names."""
@@ -222,7 +232,8 @@ class Crosswalk:
             self.base.execute(FORGET_MOVED)
         self.base.execute(KEEP_NAMES)
         self.base.execute("DELETE FROM main.term WHERE number IN (SELECT number FROM raised)")
-        self.base.execute(f"UPDATE main.name SET sureness = {LED} WHERE sureness = {OTHER} AND number IN (SELECT number FROM raised WHERE is_own)")
+        self.base.execute(f"UPDATE main.name SET sureness = {LED} WHERE sureness = {OTHER}"
+                          " AND number IN (SELECT number FROM raised WHERE is_own)")
         self.base.create_function("is_loose", 1, lambda null: ranks[null] >= RULE)
         self.base.execute(KEEP_TERMS)
 

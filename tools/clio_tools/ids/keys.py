@@ -11,7 +11,9 @@ TextOfRow = Callable[[int, list[str]], str | None]
 
 
 class Column(NamedTuple):
-    """A column that has nulls: its place, its nulls, whether a row here can be a null's own row, and whether it is a key by itself."""
+    """A column that has nulls: its place, its nulls, whether a row here can be a null's own row, and whether it is a
+    key by itself.
+    """
     place: int
     cells: "array[int]"
     is_home: bool
@@ -25,12 +27,15 @@ class Key(NamedTuple):
 
 
 class Rows:
-    """A table of the target: the columns that have nulls, and its keys. `known` gives the number of a null that a key can have, or 0."""
+    """A table of the target: the columns that have nulls, and its keys. `known` gives the number of a null that a key
+    can have, or 0.
+    """
 
     def __init__(self, table: Set, tables: list[Set], cells: "list[array[int]]", known: Callable[[int], int]) -> None:
         self.table, self.cells = table, cells
         homes, alone = home_columns(table, tables), {key[0] for key in table.keys if len(key) == 1}
-        self.columns = [Column(place, cells[place], name in homes, name in alone) for place, name in enumerate(table.columns) if has_nulls(cells[place])]
+        self.columns = [Column(place, cells[place], name in homes, name in alone)
+                        for place, name in enumerate(table.columns) if has_nulls(cells[place])]
         self.homes = [column for column in self.columns if column.is_home]
         self.keys = [Key(places, text_of_row(places, cells, known)) for places in
                      (tuple(table.columns.index(name) for name in key) for key in table.keys)]
@@ -75,4 +80,5 @@ def text_of_texts(places: tuple[int, ...]) -> TextOfRow:
 def home_columns(table: Set, tables: list[Set]) -> set[str]:
     """The columns that are a key by themselves, or that a ref leads to by itself."""
     names = {key[0] for key in table.keys if len(key) == 1}
-    return names | {referred[0] for other in tables for _, to, referred in other.links if to == table.name and len(referred) == 1}
+    return names | {referred[0] for other in tables for _, to, referred in other.links
+                    if to == table.name and len(referred) == 1}

@@ -1,12 +1,13 @@
 """Which number a null gets: that of the thing which had one of its names, or else a new one.
 
-If a null's own row (the null is itself a key there, or is referred to) has another key of texts, that alone decides: in a key, the number of a thing
-stands for its null. Tables come in the order of their refs, and a null's own row is that of the first table that has such a key; in it the first key
-that leads to a number decides. A null without an own row of this kind is known by the keys of the rows in which it stands; one that has none of these
-either by its rule, its variable and the values that nulls.csv has, and by those of all nulls that keys, or core mode, replaced by it.
+If a null's own row (the null is itself a key there, or is referred to) has another key of texts, that alone decides: in
+a key, the number of a thing stands for its null. Tables come in the order of their refs, and a null's own row is that
+of the first table that has such a key; in it the first key that leads to a number decides. A null without an own row of
+this kind is known by the keys of the rows in which it stands; one that has none of these either by its rule, its
+variable and the values that nulls.csv has, and by those of all nulls that keys, or core mode, replaced by it.
 
-A name that comes later may still lead to a number that never had a surer one: what was known by a rule alone keeps its number when its key becomes
-known. No other number ever changes its thing.
+A name that comes later may still lead to a number that never had a surer one: what was known by a rule alone keeps its
+number when its key becomes known. No other number ever changes its thing.
 """
 from array import array
 from collections.abc import Iterator
@@ -30,7 +31,8 @@ class Naming:
         self.target, self.crosswalk, self.is_written = target, crosswalk, is_written
         count = target.nulls.count
         self.numbers = array("q", [0]) * count  # 0 as long as a null has none
-        self.ranks, self.homes = bytearray(count), array("i", [NONE]) * count  # the surest name, and the table of the own row
+        self.ranks = bytearray(count)  # what the surest name is
+        self.homes = array("i", [NONE]) * count  # the table of the own row
         self.taken, self.known, self.new = Marks(), 0, 0
         self.new_numbers = crosswalk.new_numbers()
         self.is_told = False
@@ -63,7 +65,8 @@ class Naming:
             if keys and any(null != NONE and not self.numbers[null] for null in column.cells):
                 ways.append((column, [(self.kind(rows, column, key.places), key.text) for key in keys]))
         if ways:
-            self.decide(self.crosswalk.ask(self.own_names(place, ways)), [kind for _, keys in ways for kind, _ in keys], OWN)
+            since = self.crosswalk.ask(self.own_names(place, ways))
+            self.decide(since, [kind for _, keys in ways for kind, _ in keys], OWN)
 
     def own_names(self, place: int, ways: list[tuple[Column, list[tuple[int, TextOfRow]]]]) -> Iterator[Name]:
         """The names by keys of own rows."""
@@ -87,7 +90,8 @@ class Naming:
             return
         owners = [column for column in rows.homes if column.is_key]
         is_of_one = len(owners) == 1 and all(null != NONE and self.numbers[null] for null in owners[0].cells)
-        names = self.names_by_owner(place, columns, owners[0], is_first) if is_of_one else self.names_by_texts(place, columns, is_first)
+        names = (self.names_by_owner(place, columns, owners[0], is_first) if is_of_one
+                 else self.names_by_texts(place, columns, is_first))
         before = self.crosswalk.ask(names)
         self.decide(before, [kind for (name, _, _), kind in self.kinds.items() if name == rows.table.name], OTHER)
 
@@ -96,7 +100,9 @@ class Naming:
         return any(null != NONE and self.sureness(place, column, null, is_first) for null in column.cells)
 
     def sureness(self, place: int, column: Column, null: int, is_first: bool) -> int:
-        """What a name by another row is for a null: OTHER if it has no number, LED if the number is another thing's, or 0 if none is wanted."""
+        """What a name by another row is for a null: OTHER if it has no number, LED if the number is another thing's, or
+        0 if none is wanted.
+        """
         if not self.numbers[null]:
             return OTHER
         if not is_first:
@@ -114,10 +120,12 @@ class Naming:
                     yield kind, f"[{self.numbers[one]}]", null, sureness
 
     def names_by_texts(self, place: int, columns: list[Column], is_first: bool) -> Iterator[Name]:
-        """The names of nulls by the keys of their rows: by the numbers of things whose own row it is, or else by all keys of texts."""
+        """The names of nulls by the keys of their rows: by the numbers of things whose own row it is, or else by all
+        keys of texts.
+        """
         rows = self.rows[place]
-        ways = [(column, [(self.kind(rows, column, key.places), key) for key in rows.keys if column.place not in key.places])
-                for column in columns]
+        ways = [(column, [(self.kind(rows, column, key.places), key) for key in rows.keys
+                          if column.place not in key.places]) for column in columns]
         for number, row in enumerate(self.target.rows(rows.table)):
             owners = self.owners(rows, number)
             for column, keys in ways:
@@ -132,7 +140,8 @@ class Naming:
 
     def owners(self, rows: Rows, number: int) -> set[tuple[int, ...]]:
         """The keys of a row that are a null with a number: the row is that thing's own."""
-        return {(column.place,) for column in rows.homes if column.is_key and (null := column.cells[number]) != NONE and self.numbers[null]}
+        return {(column.place,) for column in rows.homes
+                if column.is_key and (null := column.cells[number]) != NONE and self.numbers[null]}
 
     def kind(self, rows: Rows, column: Column, key: tuple[int, ...]) -> int:
         """The number of a kind of names."""
@@ -212,7 +221,9 @@ class Naming:
                 self.give_new(null, RULE)
 
     def keep(self) -> None:
-        """Keeps all names with the numbers of their nulls; takes down which rows have another thing in a column than when they were there last."""
+        """Keeps all names with the numbers of their nulls; takes down which rows have another thing in a column than
+        when they were there last.
+        """
         self.changed, self.changes = self.crosswalk.changes(SHOWN)
         self.crosswalk.keep(self.ranks)
 

@@ -14,7 +14,9 @@ json_text: Callable[[str], str] = vars(json.encoder)["encode_basestring_ascii"] 
 
 
 def parts_of(text: str) -> tuple[str, str, str] | None:
-    """The rule, the variable and the place of a null as texts, or None for another text; a text that clio writes in no way is refused."""
+    """The rule, the variable and the place of a null as texts, or None for another text; a text that clio writes in no
+    way is refused.
+    """
     if text[:1] != "?" or text[1:2] == "?":
         return None
     found = NULL.fullmatch(text)
@@ -37,7 +39,9 @@ class Marks:
 
 
 class Nulls:
-    """Names of nulls and their numbers. The places of a rule's variable lie close to each other, so a block has the numbers of some hundred."""
+    """Names of nulls and their numbers. The places of a rule's variable lie close to each other, so a block has the
+    numbers of some hundred.
+    """
 
     def __init__(self) -> None:
         self.blocks: dict[tuple[str, str, int], array[int]] = {}

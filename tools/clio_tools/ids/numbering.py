@@ -18,7 +18,8 @@ def check_whole(crosswalk: Crosswalk) -> None:
     for name in files or ["nulls.csv"]:
         path = OUT / name
         if pathlib.Path(name).name != name or not path.is_file() or digest_of_file(path) != files.get(name):
-            raise Refused(f"out/nulls.csv has numbers, and {path} is not of the run in which {crosswalk.path} gave them: {AGAIN}")
+            raise Refused(f"out/nulls.csv has numbers, and {path} is not of the run in which {crosswalk.path} gave"
+                          f" them: {AGAIN}")
 
 
 def number(tables: list[Set], crosswalk: Crosswalk, chosen: dict[tuple[str, str], bool], nested: bool) -> Naming:

@@ -1,4 +1,6 @@
-"""The files with the numbers in them: all are written beside the old ones first, and then put in their places, nulls.csv first."""
+"""The files with the numbers in them: all are written beside the old ones first, and then put in their places,
+nulls.csv first.
+"""
 import json
 import sqlite3
 from array import array
@@ -86,7 +88,8 @@ class Files:
                     loose += not self.is_written[null]
             text = "\0".join(orders) + "\0"
             if "?" in text or text.count("\1") > loose or text.count("\0") > len(orders):
-                text = "\0".join([order if one[number] != NONE else order_of_text(order) for order, one in zip(orders, cells)]) + "\0"
+                orders = [order if one[number] != NONE else order_of_text(order) for order, one in zip(orders, cells)]
+                text = "\0".join(orders) + "\0"
             yield sorted_by(text), record_text(row)
 
     def document(self, table: Set) -> Iterator[str]:

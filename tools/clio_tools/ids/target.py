@@ -64,7 +64,8 @@ class Target:
                 raise Refused(f"out/nulls.csv lists {null[:60]}, which is in no table: {AGAIN}")
             variables = [name for name, _ in pairs]
             if named.setdefault(parts[0], variables) != variables:
-                raise Refused(f"out/nulls.csv has other variables for {null[:60]} than for other nulls of its rule: {AGAIN}")
+                raise Refused(f"out/nulls.csv has other variables for {null[:60]} than for other nulls of its rule:"
+                              f" {AGAIN}")
             yield number, null, pairs
 
     def term_text(self, rule: str, variable: str, pairs: Pairs) -> str:
@@ -87,7 +88,9 @@ class Target:
                 yield number, RULE, self.term_text(rule, variable, [])
 
     def folded(self, wanted: bytearray) -> Iterator[tuple[int, int, int, int]]:
-        """The nulls that one of those that are wanted came in the place of: each with its rule, variable and place, and the number of that one."""
+        """The nulls that one of those that are wanted came in the place of: each with its rule, variable and place, and
+        the number of that one.
+        """
         for null, value in read_table(written("fold"), PAIRS):
             if value[:1] == "?" and (number := self.nulls.number_of(value)) != NONE and wanted[number]:
                 found = NULL.fullmatch(null)
@@ -118,7 +121,8 @@ def groups(rows: Iterable[list[str]]) -> Iterator[tuple[str, Pairs]]:
 
 def names_of(rules: list[str]) -> list[str]:
     """The texts of rules; one that is there already is told from the others by how many are before it."""
-    return [rule if not rules[:place].count(rule) else f"{rule} // {rules[:place].count(rule)}" for place, rule in enumerate(rules)]
+    before = [rules[:place].count(rule) for place, rule in enumerate(rules)]
+    return [f"{rule} // {count}" if count else rule for rule, count in zip(rules, before)]
 
 
 def written(name: str, ending: str = ".csv") -> pathlib.Path:
