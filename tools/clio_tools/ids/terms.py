@@ -19,7 +19,7 @@ from clio_tools.sql.words import SQLITE
 SOURCE = re.compile(r"source\.\"([^\"]+)\" AS (a[0-9]+)")
 CELL = re.compile(r"(a[0-9]+)\.\"([^\"]+)\"")
 
-Term = tuple[int, int, list[list[str]], int]  # a rule, a variable, the names and values of what is exported, and the number of a null
+Term = tuple[int, int, list[list[str]], int]  # rule, variable, names and values of what is exported, number of a null
 
 
 class Terms:
@@ -29,7 +29,9 @@ class Terms:
         self.rules, self.base = rules, base
 
     def of(self, folded: Iterable[tuple[int, int, int, int]]) -> Iterator[Term]:
-        """For each of some nulls, given as rule, variable, place and a number: rule, variable, the values that the rule exports, and number."""
+        """For each of some nulls, given as rule, variable, place and a number: rule, variable, the values that the rule
+        exports, and number.
+        """
         self.base.execute("CREATE TEMP TABLE folded"
                           " (line INTEGER PRIMARY KEY, rule INTEGER, variable INTEGER, place INTEGER, number INTEGER)")
         self.base.executemany("INSERT INTO folded (rule, variable, place, number) VALUES (?, ?, ?, ?)", folded)
@@ -84,11 +86,14 @@ class Terms:
         names = [f"x{number}" for number in self.script.rules[rule].exported]
         cells = "".join(f", m.c{column}" for column in range(columns))
         rows = self.base.execute(f"SELECT f.variable, f.number, f.place, m.rowid{cells} FROM folded AS f"
-                                 f" LEFT JOIN matches{rule} AS m ON m.rowid = f.place + 1 WHERE f.rule = ? ORDER BY f.line", (rule,))
+                                 f" LEFT JOIN matches{rule} AS m ON m.rowid = f.place + 1 WHERE f.rule = ?"
+                                 " ORDER BY f.line", (rule,))
         for variable, number, place, row, *texts in rows:
             if row is None:
-                raise Refused(f"out/fold.csv has ?{rule}.{variable}.{place}, and the source has no such match now: {AGAIN}")
-            yield rule, variable, [[name, "?" + text if text[:1] == "?" else text] for name, text in zip(names, texts)], number
+                raise Refused(f"out/fold.csv has ?{rule}.{variable}.{place}, and the source has no such match now:"
+                              f" {AGAIN}")
+            values = ["?" + text if text[:1] == "?" else text for text in texts]
+            yield rule, variable, [[name, value] for name, value in zip(names, values)], number
 
     def match(self, rule: int) -> int:
         """Makes the table of a rule's matches, its rows in order; answers how many columns it has."""
