@@ -28,6 +28,8 @@ ways a comment with the ways. If there is no drawing.clio, it takes mapping.clio
 draws them. All places are bytes of the drawing.
 
 THE NOTES
+What a drawing can say besides what a mapping can:
+
     rows T from S;
     rows T from S with r, s.u where kind = "F";
     rows T from S by r;
