@@ -82,7 +82,7 @@ REFUSED = [  # the end of the drawing, what is said, and the word that is shown
      "note"),
     (ROWS + "line stray.a -> sale.who;", "no ref leads from ord to stray", "stray"),
     (ROWS + "line customer.cname -> sale.who by buyer.land;", "by buyer.land leads from ord to country, and from there "
-     "no ref leads to customer", "buyer"),
+     "no ref leads to customer", "land"),
     (ROWS + 'line customer.cname -> sale.who by buyer else "none";', "no default for a missing link can be said",
      "else"),
     (ROWS + "line customer.cname -> sale.who by buyer via payer;", "unexpected `via`; here can be `;` or `.` or `from` "
@@ -212,6 +212,15 @@ class Writing(Trial):
         (self.folder / "mapping.clio").rename(self.folder / "far" / "mapping.clio")
         os.symlink("far/mapping.clio", self.folder / "mapping.clio")
         self.refused("clio-rules", "--write", why="is a link, and clio-rules writes through none")
+
+    def test_line_ends_stay_and_other_bytes_are_refused(self) -> None:
+        self.file("drawing.clio", self.DRAWING.replace("\n", "\r\n"))
+        self.printed("clio-rules", "--write")
+        self.printed("clio-rules", "--write")
+        self.assertIn(b"set country { code, label; }\r\n", (self.folder / "mapping.clio").read_bytes())
+        self.assertEqual(self.clio("show")[0], 0)
+        self.file("drawing.clio", self.DRAWING.encode() + b"// \xff\n")
+        self.refused("clio-rules", why="the text isn't UTF-8 here")
 
     def test_comments_go_to_their_rules(self) -> None:
         self.file("drawing.clio", HEAD + "// of sales\nrows sale from ord; // all of them\nline ord.no -> "

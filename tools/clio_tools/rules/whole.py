@@ -29,6 +29,11 @@ class Faulty(Exception):
 def read(content: bytes) -> Drawing:
     """The drawing of a text with its schemas; its notes are not yet worked out."""
     parsed = parse(content, drawing=True)
+    try:
+        content.decode("utf-8")
+    except UnicodeDecodeError as why:  # as comments may have it
+        said = "the text isn't UTF-8 here, and clio-rules prints its comments again"
+        raise Faulty([*parsed.faults, Fault("bad character", why.start, why.end, said)]) from None
     source, faults = schema_of(parsed.tree.source, "source", circles=True)
     target, others = schema_of(parsed.tree.target, "target", circles=True)
     found = list(parsed.faults) + faults + others

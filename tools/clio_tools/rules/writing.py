@@ -32,7 +32,7 @@ def _look_at_mapping(path: pathlib.Path, name: str) -> None:
         raise Refused(f"{path} is a link, and clio-rules writes through none: take it away first")
     if not path.exists():
         return
-    printed = is_as_printed(path.read_text(encoding="utf-8", errors="replace"))
+    printed = is_as_printed(path.read_bytes().decode("utf-8", "replace"))
     if printed is None:
         raise Refused(f"{path} wasn't printed by clio-rules: move it away first, or rename it to {name} if it is the "
                       f"drawing")
@@ -43,7 +43,7 @@ def _look_at_mapping(path: pathlib.Path, name: str) -> None:
 
 def _look_at_file(path: pathlib.Path, content: str) -> None:
     """Refuses a file with another content than a set for a test has."""
-    if path.is_symlink() or (path.exists() and path.read_text(encoding="utf-8", errors="replace") != content):
+    if path.is_symlink() or (path.exists() and path.read_bytes() != content.encode("utf-8")):
         raise Refused(f"{path} is there, with another content than `where` takes: rename it, and its set")
 
 
