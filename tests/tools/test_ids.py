@@ -156,7 +156,7 @@ class Ids(Trial):
         for change, why in [("UPDATE next SET number = 9223372036854775807", "the next number is 9223372036854775807"),
                             ("UPDATE next SET number = 'x'", "the next number is 'x'"), ("DELETE FROM next", "the table next has 0 rows"),
                             ("UPDATE name SET number = 'x'", "has the number 'x'"), ("UPDATE name SET number = 1", "which are of two things"),
-                            ("UPDATE name SET number = 77", "has the number 77"), ("UPDATE name SET text = x'00'", "is not as clio-ids writes it"),
+                            ("UPDATE name SET number = 77", "has the number 77"), ("UPDATE name SET text = CAST(text AS BLOB)", "is not as clio-ids writes it"),
                             ("UPDATE name SET kind = 99", "is not as clio-ids writes it"), ("DROP TABLE term", "other tables"),
                             ("UPDATE numbered SET is_numbered = 'x'", "is marked 'x'"), ("UPDATE written SET digest = 'x'", "the digest of"),
                             ("UPDATE kind SET key_columns = '['", "is not as clio-ids writes it")]:

@@ -81,12 +81,13 @@ class Postgres:
         yield f"COPY {self.name(table.name)} FROM stdin;"
         typed = [place for place, column in enumerate(table.columns) if (table.name, column) in nullable]
         for row in rows:
+            opens = [place for place in typed if sql_types.is_open(row[place])]
             line = "\t".join(row)
             if "\\" in line or "\n" in line or "\r" in line or line.count("\t") >= len(row):
                 row = [cell.translate(ESCAPES) for cell in row]
                 line = "\t".join(row)
-            if typed:
-                line = "\t".join("\\N" if place in typed and sql_types.is_open(cell) else cell for place, cell in enumerate(row))
+            if opens:
+                line = "\t".join("\\N" if place in opens else cell for place, cell in enumerate(row))
             yield line
         yield "\\."
 
