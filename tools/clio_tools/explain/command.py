@@ -8,8 +8,9 @@ characters:
 
     mapping: ..          line, column, carets under the word, what can be there, and the names that exist there
     rows: ..             the expected and the found header; the record with its fields and its line; the place in a document; the field that is no value
-    clash: ..            all clashes, each with the source rows behind its texts, and how keys made the nulls in its key equal
-    limit: ..            which set, pair or rule passes it, how large it is, and what to do
+    clash: ..            all clashes, each with the source rows behind its texts, and how keys made the nulls in its key equal;
+                         what of the mapping makes the first one
+    limit: ..            which sets, lines, refs or rules pass it, how large it is, and what to do, in at most 40 lines
     read fault: ..       the reason of the system
     write fault: ..      which file, and the reason of the system
     out of memory        how much there is
@@ -20,7 +21,9 @@ characters:
 If nothing was refused it warns of what the manual calls traps: a rule of lines that has a set twice, a ref of the source that drops rows, with their
 number, and whether a line uses it; columns of the source that go nowhere, and columns of the target that nothing fills; records that are there twice,
 and matches that became one; rows of nothing but nulls; rows with nothing in their key; a set that has no key to group by; a quote that is never
-closed. After `show` it speaks of the mapping alone.
+closed, or text behind one that is; a text that differs from another by a space; a line from a text that no rule has; a ref of the target to no key.
+Each warning ends with its name and its set: the comment `// clio-explain: off NAME SET` in the mapping switches it off, without SET all of this name.
+After `show` it speaks of the mapping alone.
 
 It reads the mapping and the files anew after clio has ended, and runs `clio show` for the rules, and `clio judge` for a verdict once more. For data at
 clio's limits that takes up to a minute.

@@ -7,11 +7,14 @@ clio-ids reads what `clio exchange` wrote into the folder out, and rewrites it: 
 before clio-tables. The same thing gets the same number in each run, a new one a new number. The numbers are kept in
 CROSSWALK, an SQLite file, which is made by the first run.
 
-A null is known by each other key of its own row, the one in which it is itself a key or is referred to: by the key's
-texts, or the numbers of the nulls there. So the `cid` of a customer is known by the customer's name if that is a key.
-If there is none it is known by the keys of the rows in which it stands. In either case it is also known by the text of
-its rule and the values that nulls.csv has, and so for each null that became this one (fold.csv), for which it reads the
-source files again. If two things become one, one of their numbers stays. A number is never given to a second thing.
+If the row of a null (the one in which it is itself a key, or is referred to) has another key of texts, that alone
+decides which thing it is; in a key the number of a thing stands for its null. So the `cid` of a customer is known by
+the customer's name if that is a key. With several keys the first one that is known decides, and a thing has one value of
+each key at a time: that of the last run. A null without such a row is known by the keys of the rows in which it stands;
+one that has none of these either by the text of its rule and the values that nulls.csv has, and so for each null that
+became this one (fold.csv), for which the source files are read again. What was known by a later name alone keeps its
+number when it gets a surer one. If two things become one, one of their numbers stays. A number is never given to a
+second thing.
 
 A null becomes a number if it stands in a column of a key or a ref that has nulls alone when it first has rows; that is
 kept for later runs. `--number` and `--keep` decide it by hand, and may be repeated. Each other null is a value that
@@ -19,10 +22,14 @@ nobody knows: it stays one, and gets a name that stays, ?999.0.N with N from the
 clio's order. In nulls.csv the first column has the new names and is called `id`; in fold.csv they stand in the second.
 With `--nested` the documents are rewritten too.
 
-It prints how many nulls had a number, and how many are new. The crosswalk is changed before the files are, and each
-file is replaced as a whole. If it is stopped in between, the next run says so: run `clio exchange` again, and the
-numbers are the same. Run twice, it changes nothing. It refuses a number that is a text of such a column already, and
-files that are not of one run. It is not proved, but has tests.
+It prints how many nulls had a number, how many are new, and in how many rows that are known by a key another thing
+stands in a column than when they were there last, with the first ten of these: `sale.c of (n) ["2"]: 2 is now 3`.
+
+The crosswalk is changed before the files are, and each file is replaced as a whole. If it is stopped in between, the
+next run says so: run `clio exchange` again, and the numbers are the same. Run twice, it changes nothing. It refuses a
+number that is a text of such a column already, files that are not of one run, a folder out that is a link, and a
+crosswalk that is a link, that another run works on, or that something else has changed (it says what is wrong). It is
+not proved, but has tests.
 
 Time grows with the cells and the nulls, some 50 seconds of a busy processor for each million nulls; memory with the
 nulls alone, a few bytes for each. A target of 4,000,000 cells with 1,000,000 nulls took 80 seconds and 270 MB, a
