@@ -10,8 +10,8 @@ CROSSWALK, an SQLite file, which is made by the first run.
 If the row of a null (the one in which it is itself a key, or is referred to) has another key of texts, that alone
 decides which thing it is; in a key the number of a thing stands for its null. So the `cid` of a customer is known by
 the customer's name if that is a key. With several keys the first one that is known decides, and a thing has one value
-of each key at a time: that of the last run. A null without such a row is known by the keys of the rows in which it stands;
-one that has none of these either by the text of its rule and the values that nulls.csv has, and so for each null that
+of each key at a time: that of the last run. A null without such a row is known by the keys of the rows in which it
+stands; one that has none of these either by the text of its rule and the values that nulls.csv has, and so for each null that
 became this one (fold.csv), for which the source files are read again. What was known by a later name alone keeps its
 number when it gets a surer one. If two things become one, one of their numbers stays. A number is never given to a
 second thing.
