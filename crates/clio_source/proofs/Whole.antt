@@ -9,9 +9,10 @@ use Rattle.dx_instance.specs.Shown.{shown_tables}
 use Rattle.dx_instance.specs.Stored.{IsSorting, TableRows, facts, widths}
 use Rattle.dx_schema.specs.Tables.{schema_widths, tables_of}
 use Rattle.dx_stages.specs.declared.stop.Stop.{Stop}
+use Rattle.dx_stages.specs.declared.stop.Stop.TheVariants as stops
 use Rattle.dx_stages.specs.Stages.{Stage, into, next, over}
 use Rattle.dx_stages.specs.Running.{Ran}
-use Rattle.dx_stages.proofs.Running.{ran_by, ran_next, ran_over, ran_passes, ran_stop, ran_value, silent_apart}
+use Rattle.dx_stages.proofs.Running.{ran_by, ran_memory, ran_next, ran_over, ran_passes, ran_stop, ran_value, silent_apart}
 use Rattle.dx_used.specs.Used.{AgreeOnUsed, Marks}
 use Rattle.dx_used.specs.Named.{ReadNamed}
 use Rattle.dx_used.specs.Passing.{Passes, fact_passes, passing}
@@ -42,6 +43,12 @@ pub source_stops : (passes : Passes) (used : Marks) (w : SourceRequest) (e : Sto
 source_stops passes used w e old new x =
     ran_by (whole_of passes) w (Err e) old new (ran_over (λ (_ : SourceRequest). at_start) (next (files_stages w.schema) (after_files passes w)) w (Err e) old new
     (ran_stop (files_stages w.schema) (after_files passes w) at_start e old new x))
+
+-- memory ran out after all was read
+pub source_out : (passes : Passes) (used : Marks) (w : SourceRequest) (r : Reading) (old new : InputState)
+    → RanTo used (files_stages w.schema) at_start (Ok r) old new → Ran (source_left passes) w (Err stops.Memory) old new
+source_out passes used w r old new (q, holds, ran) =
+    source_stops passes used w stops.Memory old new (ran_memory (files_stages w.schema) at_start q old new ran)
 
 -- the facts that were read and pass have an instance, and this is what the stage passes
 source_agrees : (passes : Passes) (used : Marks) (w : SourceRequest) (r : Reading) (J : List TableRows) (old new : InputState) → RanTo used (files_stages w.schema) at_start (Ok r) old new

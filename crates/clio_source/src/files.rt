@@ -38,6 +38,7 @@ fn root_file_name(alloc: Global, schema: &Schema, root: u32) -> Result<Text, All
 }
 
 // Reads a root's file, after what was read before it.
+#[tactic(auto, using(dx_stages::proofs::Running::ran_out))]
 fn read_root<I: Inputs>(
     alloc: Global,
     inputs: &mut I,
