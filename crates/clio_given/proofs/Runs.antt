@@ -10,12 +10,13 @@ use Rattle.dx_instance.specs.Stored.{TableRows}
 use Rattle.dx_schema.specs.Forest.{Forest}
 use Rattle.dx_schema.specs.Tables.{AreTables, schema_table, tables_of}
 use Rattle.dx_stages.specs.declared.stop.Stop.{Stop}
+use Rattle.dx_stages.specs.declared.stop.Stop.TheVariants as stops
 use Rattle.dx_stages.specs.Worlds.{World}
 use Rattle.dx_stages.specs.Stages.{Stage, by, each, file, next, over, stay}
 use Rattle.dx_stages.specs.Laws.{AsksOtherFiles, AsksOnly}
 use Rattle.dx_stages.specs.Running.{Gives, Ran}
 use Rattle.dx_stages.proofs.Decided.{apart_by, each_only}
-use Rattle.dx_stages.proofs.Running.{ran_by, ran_file, ran_front, ran_into, ran_into_stop, ran_more, ran_next, ran_over, ran_stop, ran_value, silent_apart}
+use Rattle.dx_stages.proofs.Running.{ran_by, ran_file, ran_front, ran_into, ran_into_stop, ran_memory, ran_more, ran_next, ran_over, ran_stop, ran_value, silent_apart}
 use Rattle.clio_source.specs.declared.fault.RowsFault.TheVariants.{Absent}
 use Rattle.clio_source.specs.declared.fault.SourceRefusal.{SourceRefusal}
 use Rattle.clio_source.specs.declared.fault.SourceRefusal.TheVariants as refusals
@@ -138,6 +139,14 @@ given_stops w e old new ran =
     ran_by whole w (Err e) old new
     (ran_over (λ (_ : TargetRequest). none_read w.bytes_left) (next (given_files_stages w.schema) (given_storing w.schema)) w (Err e) old new
     (ran_stop (given_files_stages w.schema) (given_storing w.schema) (none_read w.bytes_left) e old new ran))
+
+-- memory ran out after all was read
+pub given_out : (w : TargetRequest) (r : Reading) (old new : InputState)
+    → Ran (given_files_stages w.schema) (none_read w.bytes_left) (Ok (read_of r)) old new
+    → Ran given_stages w (Err stops.Memory) old new
+given_out w r old new ran =
+    given_stops w stops.Memory old new
+    (ran_memory (given_files_stages w.schema) (none_read w.bytes_left) (read_of r) old new ran)
 
 pub given_passes : (w : TargetRequest) (r : Reading) (I : List TableRows) (old new : InputState) → Ran (given_files_stages w.schema) (none_read w.bytes_left) (Ok (read_of r)) old new
     → IsStored w.schema (read_of r).facts I → Ran given_stages w (Ok I) old new

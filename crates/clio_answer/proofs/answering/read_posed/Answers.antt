@@ -1,6 +1,13 @@
 use Rattle.std.proofs.lemmas.Result.{err_from_is_err_and}
+use Rattle.dx_stages.proofs.Running.{ran_out}
+use Rattle.clio_answer.specs.Answering.{query_over}
 use Rattle.clio_answer.proofs.Queried.{query_passed, query_stopped, query_within}
 use Rattle.clio_answer.proofs.answering.read_posed.Goals as goal
+
+pub returns-in_err-name : goal.returns-in_err-name
+returns-in_err-name g c =
+    let p = err_from_is_err_and c.from_residual.result c.from_residual.ensures.1 in
+    rw (p.1, p.2) (ran_out (query_over c.args.mapping.now) c.args.mapping.now _)
 
 pub returns-in_err-text : goal.returns-in_err-text
 returns-in_err-text g c =

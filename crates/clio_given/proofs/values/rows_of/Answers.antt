@@ -16,8 +16,8 @@ loop-place-init c = record {
 pub returns-then-not-branch-clause-fault : goal.returns-then-not-branch-clause-fault
 returns-then-not-branch-clause-fault c =
     let h : c.loop-place.place < length c.args.records.now = omega (arith, c.loop-place-test.true, c.in-Ok.ensures) in
-    first_no_row c.args.records.now c.loop-place.symbols c.args.width c.loop-place.place (c.from-2.result + 1) c.loop-place.rows c.index-records-place.result
-    (slice_get-get_or c.args.records.now c.loop-place.place c.index-records-place.result h ∙ ap (λ (r : List Value). Some r) (sym c.index-records-place.is)) (ap (λ (n : ℕ). n + 1) c.from-2.ensures)
+    first_no_row c.args.records.now c.loop-place.symbols c.args.width c.loop-place.place (c.from-then-not-branch.result + 1) c.loop-place.rows c.index-records-place.result
+    (slice_get-get_or c.args.records.now c.loop-place.place c.index-records-place.result h ∙ ap (λ (r : List Value). Some r) (sym c.index-records-place.is)) (ap (λ (n : ℕ). n + 1) c.from-then-not-branch.ensures)
     (rw (c.if-not-branch.true, c.items.ensures) at c.in_ok-number_row.ensures.values) c.loop-place.invariant.made
 
 pub push-requires-clause-width : goal.push-requires-clause-width

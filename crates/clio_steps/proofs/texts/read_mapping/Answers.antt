@@ -2,9 +2,15 @@ use Rattle.std.proofs.Common.{◌∙◌}
 use Rattle.std.proofs.lemmas.Result.{err_from_is_err_and}
 use Rattle.dx_funcs.specs.Judging.{tested}
 use Rattle.dx_funcs.specs.Serving.{offered}
-use Rattle.clio_steps.specs.Steps.{program}
+use Rattle.dx_stages.proofs.Running.{ran_out}
+use Rattle.clio_steps.specs.Steps.{program, text_stages}
 use Rattle.clio_steps.proofs.Mappings.{stopped, passed, within}
 use Rattle.clio_steps.proofs.texts.read_mapping.Goals as goal
+
+pub returns-in_err-name : goal.returns-in_err-name
+returns-in_err-name g c =
+    let p = err_from_is_err_and c.from_residual.result c.from_residual.ensures.1 in
+    rw (p.1, p.2) (ran_out (text_stages (program (offered c.args.host.now) (tested c.args.tests.now) g.M.Meaning.apply g.M.Meaning.passes) c.args.side) (tt {0}) _)
 
 pub returns-in_err-text : goal.returns-in_err-text
 returns-in_err-text g c =
