@@ -6,6 +6,7 @@ never closed runs to the end of the file. Fields may be of any length and hold a
 """
 import csv
 import io
+import itertools
 import os
 import pathlib
 from collections.abc import Iterable
@@ -60,10 +61,15 @@ def read_records(path, delimiter=",", strict=False):
 
     If strict, so are a quote that is never closed, and text between a closing quote and the end of its field.
     """
+    given = 0
     try:
         with open(path, newline="", encoding="utf-8-sig") as file:
-            yield from filter(None, csv.reader(file, delimiter=delimiter, strict=strict))
-    except (UnicodeDecodeError, csv.Error):
+            for given, fields in enumerate(filter(None, csv.reader(file, delimiter=delimiter, strict=strict)), 1):
+                yield fields
+    except UnicodeDecodeError:
+        # a quote may stand between the bytes of a character: then the fields are texts, though the file is none
+        yield from itertools.islice(_counted_records(path, delimiter, strict), given, None)
+    except csv.Error:
         for _ in _counted_records(path, delimiter, strict):
             pass
         raise Refused(f"{path} was changed while it was read") from None
