@@ -121,7 +121,8 @@ WRITES = [
     Case("out is a file", {"mapping.clio": EMP, "emp.csv": "name,dept\n", "out": ""}, 8, ["out/rules.txt", "out is a file"]),
     Case("a folder in the place of a file", {"mapping.clio": EMP, "emp.csv": "name,dept\n", "out/person.csv": None, }, 8,
          ["file 3 of 5", "out/person.csv is a folder", "rules.txt, script.sql are written"]),
-    Case("a link to nothing", {"mapping.clio": EMP, "emp.csv": "name,dept\n", "out/rules.txt": "->/nowhere/at/all"}, 8, ["is a link to /nowhere/at/all"]),
+    Case("a link in the place of a file", {"mapping.clio": EMP, "emp.csv": "name,dept\n", "out/rules.txt": "->/nowhere/at/all"}, 0, []),
+    Case("out is a link to a folder", {"mapping.clio": EMP, "emp.csv": "name,dept\n", "out": "->."}, 8, ["out is a link to ."]),
     Case("out is a link to nothing", {"mapping.clio": EMP, "emp.csv": "name,dept\n", "out": "->nowhere"}, 8, ["out is a link to nowhere"]),
     Case("no words", {}, 2, ["there is no command"], ()),
     Case("help", {}, 2, ["man clio"], ("--help",)),
@@ -283,4 +284,6 @@ TOLD = [
          ("show",)),
     Told("a column twice in a dependency", {"mapping.clio": ADDRESS % "dep (zip) -> (town, town);"}, 4, "mapping: target: double name town",
          ["column 89:", "it is there already:", "column 83:"], ("show",)),
+    Told("a pipe", {"mapping.clio": EMP, "emp.csv": "|"}, 7, "read fault: emp.csv", ["emp.csv is a pipe"],
+         ("exchange",)),
 ]

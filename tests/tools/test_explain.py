@@ -39,7 +39,7 @@ def run(command):
 
 
 def make(files):
-    """Writes the files of a case; None is a folder, a text that begins with -> a link."""
+    """Writes the files of a case; None is a folder, a text that begins with -> a link, and | a pipe."""
     for name, content in files.items():
         path = pathlib.Path(name)
         path.parent.mkdir(exist_ok=True)
@@ -48,6 +48,8 @@ def make(files):
             path.mkdir()
         elif isinstance(content, str) and content.startswith("->"):
             path.symlink_to(content[2:])
+        elif content == "|":
+            os.mkfifo(path)
         else:
             path.write_bytes(content.encode() if isinstance(content, str) else content)
 

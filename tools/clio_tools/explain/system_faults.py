@@ -26,6 +26,7 @@ def reading(file):
     """Why a file could not be read."""
     if kind_of(file):
         yield f"{file} is {kind_of(file)}"
+        return
     try:
         with open(file, "rb") as opened:
             opened.read(1)
@@ -81,16 +82,18 @@ def writing(message, content, words):
 
 def of_path(path):
     """Why a path in `out` can't be written; nothing if it can."""
+    if os.path.islink("out"):
+        yield f"out is a link to {visible(os.readlink('out'))}, and clio writes into a folder of this name: move it away"
+        return
     if os.path.lexists("out") and not os.path.isdir("out"):
-        yield f"out is a link to {visible(os.readlink('out'))}, which isn't there" if os.path.islink("out") and not os.path.exists("out") else \
-            "out is a file, and clio writes into a folder of this name: move it away"
+        yield "out is a file, and clio writes into a folder of this name: move it away"
         return
     try:
         if not os.path.isdir("out"):
             with tempfile.TemporaryFile(dir="."):
                 return
-        if os.path.lexists(path):
-            yield from existing(path)
+        if os.path.isdir(path) and not os.path.islink(path):
+            yield f"{path} is a folder: move it away"
         else:
             with tempfile.TemporaryFile(dir="out"):
                 pass
@@ -99,23 +102,6 @@ def of_path(path):
         yield f"{'out' if os.path.isdir('out') else 'this folder'}: {error.strerror}"
         if error.errno == errno.EACCES:
             yield from permissions("out" if os.path.isdir("out") else ".")
-
-
-def existing(path):
-    """Why a path that is there can't be written."""
-    if kind_of(path):
-        yield f"{path} is {kind_of(path)}: move it away"
-        return
-    if os.path.islink(path) and not os.path.exists(path):
-        yield f"{path} is a link to {visible(os.readlink(path))}, which isn't there"
-        return
-    try:
-        with open(path, "r+b"):
-            pass
-    except OSError as error:
-        yield f"{path}: {error.strerror}"
-        if error.errno == errno.EACCES:
-            yield from permissions(path)
 
 
 def space():
