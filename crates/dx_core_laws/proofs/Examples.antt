@@ -7,7 +7,9 @@ use Rattle.dx_model.specs.declared.values.Value.{Value}
 use Rattle.dx_model.specs.declared.values.Value.TheVariants.{Const, Null}
 use Rattle.dx_model.specs.declared.facts.Fact.{Fact}
 use Rattle.dx_model.specs.Instances.{fact_moved, given, values}
-use Rattle.dx_core_laws.specs.Isomorphic.{AreIsomorphic, NoMoreFacts}
+use Rattle.dx_instance.specs.Stored.{rows_of}
+use Rattle.dx_exchange.specs.declared.result.Exchange.{Exchange}
+use Rattle.dx_core_laws.specs.Isomorphic.{AreAlike, AreIsomorphic, NoMoreFacts}
 use Rattle.dx_core_laws.proofs.Backs.{isomorphism_by, null_same}
 
 -- ann has this phone
@@ -76,3 +78,7 @@ two_are_more few =
         of (here e) = sym (ap (λ (x : Fact). x.table) e)
         of (there (here e)) = sym (ap (λ (x : Fact). x.table) e)
         of (there (there k)) = elim k [ ]
+
+-- exchanges that are alike have as many rows in each table
+alike_are_as_many : (e d : Exchange) → AreAlike e d → (t : ℕ) → length (rows_of e.target t) ≡ length (rows_of d.target t)
+alike_are_as_many e d alike t = alike.many t
