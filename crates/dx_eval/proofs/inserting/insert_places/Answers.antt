@@ -26,8 +26,8 @@ fill-requires-clause-texts c =
     (row_there c.args.target.now.symbols c.args.at.now.rows.now.rows (get_or c.args.at.now.places.now c.loop-place.place-index 0) c.row.result.now c.requires.texts
     (c.args.at.now.within _ (in_at c.args.at.now.places.now c.loop-place.place-index 0 c.loop-place-test.true)) c.row.ensures.row)
 
-pub count-requires : goal.count-requires
-count-requires c =
+pub count-count-requires : goal.count-count-requires
+count-count-requires c =
     let e = long_tables (built c.args.target.now) (built c.fill.new.target) (ap (λ (I : List TableRows). widths I) c.in_ok-fill.ensures.same ∙ c.loop-place.invariant.gains.widths_stay) in
     omega (arith, e, c.requires.cells.table_there)
 
