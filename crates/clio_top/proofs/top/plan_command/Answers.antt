@@ -11,3 +11,18 @@ returns-in-Demonstrating g c =
     let P : Program = program (offered c.args.host.now) (tested c.args.tests.now) g.M.Meaning.apply g.M.Meaning.passes in
     rw c.in-Demonstrating.is
     (ran_value (demo_stages P c.in-Demonstrating.number c.in-Demonstrating.mode) tt (planned c.demo_plan.result) _ c.demo_plan.ensures)
+
+pub returns-in-Exchanging : goal.returns-in-Exchanging
+returns-in-Exchanging g c = rw c.in-Exchanging.is c.exchange_plan.ensures
+
+pub returns-in-Showing : goal.returns-in-Showing
+returns-in-Showing g c = rw c.in-Showing.is c.show_plan.ensures
+
+pub returns-in-Answering : goal.returns-in-Answering
+returns-in-Answering g c = rw c.in-Answering.is c.answer_plan.ensures
+
+pub returns-in-Comparing : goal.returns-in-Comparing
+returns-in-Comparing g c = rw c.in-Comparing.is c.compare_plan.ensures
+
+pub returns-in-Judging : goal.returns-in-Judging
+returns-in-Judging g c = rw c.in-Judging.is c.judge_plan.ensures
