@@ -2,9 +2,6 @@
 import json
 import os
 import pathlib
-import re
-import subprocess
-import sys
 import tempfile
 import unittest
 from collections import Counter
@@ -13,7 +10,7 @@ from drawing_cases import cases
 from drawing_trial import differences, draw
 import random_trees
 from random_drawings import tried
-from trial import TIMES, TOP, Trial
+from trial import TIMES, Trial
 
 from clio_tools.rules.lines_alone import bare_text, circular_refs
 from clio_tools.rules.whole import Faulty, read
@@ -318,14 +315,6 @@ class Sizes(Trial):
         self.assertEqual(len(value), 30000)
         self.assertEqual(value["3"][:7], [f"{n}-{3 + n}" for n in range(7)])
         self.assertTrue(all(cell.startswith("?") for cell in value["3"][7:9]))
-
-
-class Figures(Trial):
-    def test_the_figures_of_the_manual_are_those_of_their_program(self) -> None:
-        subprocess.run([sys.executable, "-B", TOP / "dev" / "figures", "--check"], check=True)
-        used = set(re.findall(r"figures/(drawing-[a-z]+[.]svg)",
-                              (TOP / "docs/manual/drawing.md").read_text(encoding="utf-8")))
-        self.assertEqual(used, {path.name for path in (TOP / "docs/figures").glob("*.svg")})
 
 
 class Random(Trial):
