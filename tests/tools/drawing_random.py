@@ -12,6 +12,15 @@ from drawing_trial import Table, in_order
 Steps = list[str]
 
 
+@dataclass
+class Value:
+    """What a line gives: columns of the rows at the ends of ways, perhaps by a conversion, perhaps under a test."""
+
+    conversion: str
+    taken: list[tuple[Steps, str]]
+    is_tested: bool = False
+
+
 class Joins:
     """SQL that goes along ways from the row `a`; a way that is gone twice is joined once."""
 
@@ -45,7 +54,7 @@ class Target:
     start: str
     musts: list[Steps]
     tests: list[tuple[Steps, str]]  # steps, and a test of `kind`
-    columns: list[str] = field(default_factory=list)
+    columns: dict[str, Value] = field(default_factory=dict)
     links: dict[str, str] = field(default_factory=dict)
     required: set[str] = field(default_factory=set)
     query: str = ""
@@ -62,12 +71,12 @@ class Random:
         self.files: dict[str, str] = {}
         self.targets: list[Target] = []
         self.items: list[str] = []
-        self.looks_up = self.r.random() < .4
+        self.looked_up: list[str] = []
+        if self.r.random() < .4:
+            self.looked_up = self.r.sample(self.sets, self.r.randrange(1, len(self.sets) + 1))
+            self.items.append(f"lookup {', '.join(self.looked_up)};")
         source = "".join(self.source_set(one) for one in self.sets)
         target = "".join(self.target_set(number) for number in range(self.r.randrange(1, 4)))
-        if self.looks_up:
-            some = self.r.sample(self.sets, self.r.randrange(1, len(self.sets) + 1))
-            self.items.append(f"lookup {', '.join(some)};")
         self.r.shuffle(self.items)
         self.files["drawing.clio"] = "\n".join(["mapping 2;", f"source {{\n{source}}}", f"target {{\n{target}}}",
                                                 *self.items, ""])
@@ -116,7 +125,6 @@ class Random:
         self.items += [self.rows(one), f"line {start}.id -> {one.name}.no;"]
         chosen = ["a.id"]
         for place in range(r.randrange(1, 4)):
-            one.columns.append(f"c{place}")
             chosen.append(self.value(one, joins, f"c{place}"))
         clauses = self.link(one, joins, chosen) + self.circle(one, joins, chosen)
         one.query = joins.text(chosen)
@@ -148,12 +156,15 @@ class Random:
         kind = self.r.random()
         if kind < .2:
             self.items.append(f"line trim({end}.{taken}{by}) -> {one.name}.{column};")
+            one.columns[column] = Value("trim", [(steps, taken)])
             return f"trim({sql})"
         if kind < .35:
             more, other = self.way(one.start, 2)
             second = f"{other}.kind{' by ' + '.'.join(more) if more else ''}"
             self.items.append(f"line pair({end}.{taken}{by}, {second}) -> {one.name}.{column};")
+            one.columns[column] = Value("pair", [(steps, taken), (more, "kind")])
             return f"{sql} || ' ' || {joins.along(more)}.kind"
+        one.columns[column] = Value("", [(steps, taken)], kind < .5)
         if kind < .5:
             test = self.r.choice(['kind = "x"', "val filled", 'val = ""'])
             self.items.append(f"line {end}.{taken} -> {one.name}.{column}{by} where {test};")
@@ -197,25 +208,3 @@ class Random:
     def wanted(self, base: sqlite3.Connection) -> dict[str, Table]:
         """For each target set its rows without surrogate keys; a link is the `no` of the row to which it leads."""
         return {one.name: in_order(base.execute(one.query).fetchall()) for one in self.targets}
-
-    def given(self, wanted: dict[str, Table]) -> Optional[dict[str, str]]:
-        """The target that SQL made, for `clio judge`; None if a ref that isn't optional asks for rows beside."""
-        if self.looks_up:
-            return None
-        keys = {(one.name, row[0]): f"?{number}.0.{place}" for number, one in enumerate(self.targets)
-                for place, row in enumerate(wanted[one.name])}
-        files = {}
-        for number, one in enumerate(self.targets):
-            head = ["sk", "no", *one.columns, *one.links]
-            lines = [",".join(head)]
-            for place, row in enumerate(wanted[one.name]):
-                cells = [keys[one.name, row[0]]]
-                for column, cell in zip(head[1:], row):
-                    if cell is None and column in one.required:
-                        return None
-                    null = f"?{number}.{head.index(column)}.{place}"
-                    cells.append(null if cell is None else keys[one.links[column], cell] if column in one.links
-                                 else cell)
-                lines.append(",".join(cell or '""' for cell in cells))
-            files[f"given/{one.name}.csv"] = "\n".join(lines) + "\n"
-        return files

@@ -5,6 +5,7 @@ import tempfile
 from collections import Counter
 from typing import Optional
 
+from drawing_given import Given, Unjudged
 from drawing_random import Random
 from drawing_trial import Table, clio, draw, in_order, records, source_base, value
 
@@ -50,8 +51,10 @@ def tried(seed: str, folder: pathlib.Path, tally: Counter[str]) -> Optional[str]
 
 def judged(one: Random, folder: pathlib.Path, wanted: dict[str, Table], tally: Counter[str]) -> Optional[str]:
     """What `clio judge` says of the target that SQL made, if it is not the best."""
-    given = one.given(wanted)
-    if given is None:
+    try:
+        given = Given(one, folder, wanted).files()
+    except Unjudged:
+        tally["not judged"] += 1
         return None
     (folder / "given").mkdir()
     for name, content in given.items():
