@@ -5,7 +5,7 @@ from __future__ import annotations
 from typing import NamedTuple
 
 from clio_tools.picture.svg import LETTER, ROW, document, group, path, rectangle, text_at
-from drawn.pages import Tables, example, exchanged, without_keys
+from drawn.pages import Tables, example, exchanged, first_example, without_keys
 
 Rows = list[list[str]]
 TOP, GAP, ARC, BETWEEN = 58, 26, 34, 96
@@ -104,8 +104,10 @@ def merged(title: str, cause: str, before: Tables, after: Tables) -> str:
 
 def figures() -> dict[str, str]:
     """Each figure by its name."""
-    teams = example("teams")
+    teams, keyed, core = example("teams"), first_example("manual/keys.md"), first_example("manual/core.md")
     loose = without_keys(teams)
     return {"chase-teams": merged("the chase: key (label) of team", "key (label)", exchanged(loose), exchanged(teams)),
             "fold-teams": merged("the fold: rule 1 says nothing of toys that rule 0 doesn't say", "--core",
-                                 exchanged(loose), exchanged(loose, "--core"))}
+                                 exchanged(loose), exchanged(loose, "--core")),
+            "chase-keys": merged("key (id) of person", "key (id)", exchanged(without_keys(keyed)), exchanged(keyed)),
+            "fold-core": merged("core mode", "--core", exchanged(core), exchanged(core, "--core"))}

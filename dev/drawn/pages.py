@@ -1,4 +1,4 @@
-"""The files of an example, and what clio writes of such files."""
+"""What the documents have: the files of an example on a page, and what clio writes of such files."""
 from __future__ import annotations
 
 import csv
@@ -13,6 +13,7 @@ from typing import NamedTuple
 from clio_tools.program import program
 
 TOP = pathlib.Path(__file__).resolve().parent.parent.parent
+BLOCK = re.compile(r"^```\w+ (\S+)\n(.*?)^```$", re.M | re.S)
 KEY = re.compile(r" key \([^)]*\);")
 
 
@@ -21,6 +22,17 @@ class Tables(NamedTuple):
 
     tables: dict[str, list[list[str]]]
     fold: dict[str, str]
+
+
+def first_example(page: str) -> dict[str, str]:
+    """The files of the first example of a page: its first mapping, and the tables up to the next one of a name that
+    is there."""
+    files: dict[str, str] = {}
+    for name, text in BLOCK.findall((TOP / "docs" / page).read_text(encoding="utf-8")):
+        if name in files:
+            break
+        files[name] = text
+    return files
 
 
 def example(name: str) -> dict[str, str]:
