@@ -1,13 +1,14 @@
 """dev/program, ./run and tools/install: which program is named, what is run, and what is put on the path."""
 import hashlib
 import os
+import re
 import shutil
 import subprocess
 import unittest
 
 from trial import TOP, Trial
 
-COPIED = ["run", "dev", "docs", "tools/install", "tools/clio_tools"]
+COPIED = ["VERSION", "run", "dev", "docs", "tools/install", "tools/clio_tools"]
 SAYS = "#!/usr/bin/env bash\necho clio \"$@\"\n"
 
 
@@ -162,8 +163,23 @@ class Install(Repository):
 
     def test_version(self):
         sources = self.run_in("dev/dist", "sources")[1]
-        wanted = f"program {self.top.resolve()}/dist/clio\nsha-256 {hashlib.sha256(SAYS.encode()).hexdigest()}\nsources {sources}toolchain made up\n"
+        wanted = f"clio {(TOP / 'VERSION').read_text()}program {self.top.resolve()}/dist/clio\nsha-256 {hashlib.sha256(SAYS.encode()).hexdigest()}\nsources {sources}toolchain made up\n"
         self.assertEqual(self.install("--version"), (0, wanted, ""))
+        place = str(self.top.resolve() / "dist")
+        self.assertEqual(self.run_in("tools/clio-explain", "version", PATH=f"{place}:{os.environ['PATH']}"), (0, wanted, ""))
+        self.put("elsewhere/clio", SAYS + "echo other\n")
+        other = self.run_in("tools/clio-explain", "version", PATH=f"{self.folder / 'elsewhere'}:{os.environ['PATH']}")[1]
+        self.assertIn(f"program {self.folder / 'elsewhere/clio'}\n", other)
+        self.assertIn("sources unknown", other)
+
+    def test_one_version(self):
+        """The changelog's newest version, the package's and that of the man pages are the one in VERSION."""
+        version = (TOP / "VERSION").read_text(encoding="utf-8").strip()
+        self.assertEqual(re.findall(r"^## \[([0-9.]+)\]", (TOP / "CHANGELOG.md").read_text(encoding="utf-8"), re.M)[0], version)
+        self.assertIn(f'version = "{version}"\n', (TOP / "tools/pyproject.toml").read_text(encoding="utf-8"))
+        self.install()
+        for page in (self.home / ".local/share/man/man1").iterdir():
+            self.assertIn(f' 1 "" "clio {version}" ', page.read_text(encoding="utf-8").split("\n")[0])
 
 
 if __name__ == "__main__":

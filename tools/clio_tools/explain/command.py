@@ -1,6 +1,7 @@
 """Runs clio, and says what its message or its verdict leaves out.
 
     clio-explain [WORD..]
+    clio-explain version
 
 It runs `clio` with these words in the current folder: the one on the path, or else the one of the repository. What clio prints and its
 status are passed on unchanged, its message with control characters as \\u{..}. Below the message it says more on standard error, each text in quotes, cut if it is long, and without control
@@ -27,6 +28,8 @@ After `show` it speaks of the mapping alone.
 
 It reads the mapping and the files anew after clio has ended, and runs `clio show` for the rules, and `clio judge` for a verdict once more. For data at
 clio's limits that takes up to a minute.
+`clio-explain version` prints the version, and which program `clio` is: its SHA-256, the sum of its sources, its toolchain.
+
 A message that it can't explain, as that of a mapping in a later version of the text, is passed on alone. At most 1,000 clashes are listed, the first
 50 with their rows; if rules have more than 20,000,000 matches, none.
 
@@ -40,6 +43,8 @@ import sys
 from clio_tools.explain.endings import explained
 from clio_tools.explain.program import program
 from clio_tools.explain.said import visible
+from clio_tools.program import run
+from clio_tools.version import version_lines
 
 
 def say(lines, before):
@@ -55,19 +60,22 @@ def say(lines, before):
 
 def main():
     words = sys.argv[1:]
+    if words == ["version"]:
+        run("clio-explain", lambda _: print("\n".join(version_lines())))
+        return
     clio = program()
     if not clio:
         sys.exit("clio-explain: there is no clio on the path, and none was built")
     try:
-        run = subprocess.run([clio, *words], stderr=subprocess.PIPE, check=False)
+        ended = subprocess.run([clio, *words], stderr=subprocess.PIPE, check=False)
     except OSError as error:
         sys.exit(f"clio-explain: {clio}: {error.strerror}")
     try:
-        message = run.stderr.decode("utf-8", "surrogateescape").removesuffix("\n")
+        message = ended.stderr.decode("utf-8", "surrogateescape").removesuffix("\n")
         if message:
-            said = message if run.returncode == 2 else visible(message)
+            said = message if ended.returncode == 2 else visible(message)
             os.write(2, f"{said}\n".encode("utf-8", "backslashreplace"))
-        say(explained(run.returncode, message, words), "clio-explain: " if run.returncode == 0 else "  ")
+        say(explained(ended.returncode, message, words), "clio-explain: " if ended.returncode == 0 else "  ")
     except OSError:
         pass  # nobody reads standard error
-    sys.exit(run.returncode if run.returncode >= 0 else 128 - run.returncode)
+    sys.exit(ended.returncode if ended.returncode >= 0 else 128 - ended.returncode)
