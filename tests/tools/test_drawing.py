@@ -287,6 +287,27 @@ class Saying(Trial):
             self.file(file, content)
 
 
+class Lookups(Trial):
+    def test_what_a_set_gets_later_is_looked_up_too(self) -> None:
+        """b has got its place before a asks b for more: all links are in one rule for each set still."""
+        self.file("drawing.clio", """mapping 1;
+source {
+  set f { no, a, b; ref (a) -> a (id); ref (b) -> b (id); }
+  set a { id, b; ref (b) -> b (id); }
+  set b { id, c, x; ref (c) -> c (id); }
+  set c { id, x; }
+}
+target { set t { x, y; } }
+rows t from f;
+line b.x -> t.x by b;
+line c.x -> t.y by a.b.c;
+lookup a, b, c;
+""")
+        rules = [line for line in self.printed("clio-rules").split("\n") if line.startswith("rule ")]
+        self.assertEqual([rule.split("(")[0] for rule in rules], ["rule f", "rule b", "rule a", "rule c"])
+        self.assertTrue(all(rule.split(" -> ")[0].count("(") == 1 for rule in rules), rules)
+
+
 class Sizes(Trial):
     def test_too_many_cells_are_refused_before_the_run(self) -> None:
         """12 optional links and 30,000 rows: 13 rules of 13 cells are past the limit; with `lookup` clio runs it."""

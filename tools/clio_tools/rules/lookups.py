@@ -16,14 +16,13 @@ from .ways import Step
 def look_up(drawing: Drawing) -> None:
     """Moves the values behind links to `lookup` sets into sets of their own."""
     wanted = {drawing.source.numbers[word.text] for word in drawing.tree.lookups}
-    place = 0
-    while place < len(drawing.rows):  # which grow by sets that are looked up in
-        _rows(drawing, drawing.rows[place], wanted)
-        place += 1
+    while any([_rows(drawing, rows, wanted) for rows in list(drawing.rows)]):
+        pass  # the sets that are looked up in grew, and may look up what they got
 
 
-def _rows(drawing: Drawing, rows: Rows, wanted: set[int]) -> None:
-    left = list(rows.values)
+def _rows(drawing: Drawing, rows: Rows, wanted: set[int]) -> bool:
+    """Moves the values of rows that are looked up; tells whether there was one."""
+    moved, left = False, list(rows.values)
     while left:  # which grows if a set is looked up in itself
         column = left.pop(0)
         for value in list(rows.values[column]):
@@ -35,8 +34,10 @@ def _rows(drawing: Drawing, rows: Rows, wanted: set[int]) -> None:
                 if made is rows and place not in left and place in rows.values:
                     left.append(place)
                 rows.values[column].remove(value)
+                moved = True
         if not rows.values[column]:
             del rows.values[column]
+    return moved
 
 
 def _held(drawing: Drawing, rows: Rows, column: int, cell: Cell, line: Line, step: Step) -> tuple[Rows, int]:
