@@ -65,8 +65,8 @@ def bug(error: BaseException) -> str:
     frames = traceback.extract_tb(error.__traceback__)
     place = f", {pathlib.Path(frames[-1].filename).name}:{frames[-1].lineno}" if frames else ""
     said = " ".join(str(error).split())[:200]
-    return (f"this is a bug in the tool ({type(error).__name__}: {said}{place}); report it to whoever gave you clio, with the command"
-            f" and what it says under {WHOLE}=1")
+    return (f"this is a bug in the tool ({type(error).__name__}: {said}{place}); report it to whoever gave you clio,"
+            f" with the command and what it says under {WHOLE}=1")
 
 
 def run(name: str, work: Callable[[list[str]], None]) -> None:
@@ -93,7 +93,8 @@ def run(name: str, work: Callable[[list[str]], None]) -> None:
 def ending(why: Exception) -> tuple[int, str]:
     """The status that an exception ends with, and what is said of it."""
     if isinstance(why, OSError) and why.filename is not None:
-        return 2, f"{os.fsdecode(why.filename) if isinstance(why.filename, (str, bytes)) else why.filename}: {why.strerror}"
+        name = os.fsdecode(why.filename) if isinstance(why.filename, (str, bytes)) else why.filename
+        return 2, f"{name}: {why.strerror}"
     if isinstance(why, (Refused, OSError)):
         return 2, str(why)
     if isinstance(why, MemoryError):

@@ -1,8 +1,15 @@
-"""The SQL types that clio-tables gives to columns, which of them hold a column's texts unchanged, and the file that names them."""
+"""The SQL types that clio-tables gives to columns, which of them hold a column's texts unchanged, and the file that
+names them.
+"""
 import datetime
 import re
+from collections.abc import Callable, Iterable
 
+from clio_tools.mapping.text import Set
 from clio_tools.program import Refused
+
+Column = tuple[str, str]  # the names of a table and of its column
+Types = dict[Column, str]
 
 INTEGER = re.compile(r"0|-?[1-9][0-9]{0,18}")
 NUMERIC = re.compile(r"-?(0|[1-9][0-9]{0,131071})(\.[0-9]{1,16383})?")  # as many digits as PostgreSQL has room for
@@ -11,23 +18,23 @@ DATE = re.compile(r"[0-9]{4}-[0-9]{2}-[0-9]{2}")
 TIMESTAMP = re.compile(r"[0-9]{4}-[0-9]{2}-[0-9]{2}[ T][0-9]{2}:[0-9]{2}:[0-9]{2}(\.[0-9]{1,6})?")
 
 
-def _integer(text, bits):
+def _integer(text: str, bits: int) -> bool:
     return bool(INTEGER.fullmatch(text)) and -(1 << (bits - 1)) <= int(text) < 1 << (bits - 1)
 
 
-def _is_double(text):
+def _is_double(text: str) -> bool:
     """Whether a double is near a number: it is neither too large nor too small."""
     return abs(float(text)) != float("inf") and (float(text) != 0 or not re.search("[1-9]", re.split("[eE]", text)[0]))
 
 
-def _dated(text, form):
+def _dated(text: str, form: re.Pattern[str]) -> bool:
     try:
         return bool(form.fullmatch(text)) and bool(datetime.datetime.fromisoformat(text))
     except ValueError:
         return False
 
 
-HOLDS = {
+HOLDS: dict[str, Callable[[str], bool]] = {
     "integer": lambda text: _integer(text, 32),
     "bigint": lambda text: _integer(text, 64),
     "numeric": lambda text: bool(NUMERIC.fullmatch(text)) and not (text.startswith("-") and not text.strip("-0.")),
@@ -38,12 +45,14 @@ HOLDS = {
     "text": lambda text: True,
 }
 UNCHANGED = {name: HOLDS[name] for name in ("integer", "bigint", "numeric", "boolean", "date")}
-UNCHANGED["timestamp"] = lambda text: "T" not in text and not re.search(r"\.[0-9]*0$", text) and HOLDS["timestamp"](text)
+UNCHANGED["timestamp"] = lambda text: ("T" not in text and not re.search(r"\.[0-9]*0$", text)
+                                       and HOLDS["timestamp"](text))
 WIDER = {("integer", "bigint"): "bigint", ("integer", "numeric"): "numeric", ("bigint", "numeric"): "numeric"}
 
 
-FORMS = {"integer": "whole and below 2147483648", "bigint": "whole and below 2^63", "numeric": "digits, with a point at most", "real": "as 1.5 or 1e9",
-         "boolean": "true or false", "date": "as 2026-11-30", "timestamp": "as 2026-11-30 23:59:59"}  # what is a value of a type
+FORMS = {"integer": "whole and below 2147483648", "bigint": "whole and below 2^63",
+         "numeric": "digits, with a point at most", "real": "as 1.5 or 1e9", "boolean": "true or false",
+         "date": "as 2026-11-30", "timestamp": "as 2026-11-30 23:59:59"}  # what is a value of a type
 null_texts: set[str] = set()  # the text that stands for NULL, if there is one
 
 
@@ -52,7 +61,7 @@ def read_as_null(text: str) -> None:
     null_texts.add("?" + text if text.startswith("?") else text)
 
 
-def is_open(text):
+def is_open(text: str) -> bool:
     """Whether a cell of a target is a null or the empty text, which is NULL under a type."""
     return not text or (text.startswith("?") and not text.startswith("??")) or text in null_texts
 
@@ -60,12 +69,12 @@ def is_open(text):
 class Guess:
     """The types that hold each text of a column so far."""
 
-    def __init__(self, is_key):
+    def __init__(self, is_key: bool) -> None:
         self.types = list(UNCHANGED)
         self.is_key = is_key
         self.seen = False
 
-    def look(self, text):
+    def look(self, text: str) -> None:
         if not self.types:
             return
         if is_open(text):
@@ -75,18 +84,18 @@ class Guess:
             self.seen = True
             self.types = [name for name in self.types if UNCHANGED[name](text)]
 
-    def type(self):
+    def type(self) -> str:
         return self.types[0] if self.seen and self.types else "text"
 
 
-def joined(one, other):
+def joined(one: str, other: str) -> str:
     """The type of two columns that a ref links."""
     return one if one == other else WIDER.get((one, other)) or WIDER.get((other, one)) or "text"
 
 
-def key_columns(tables):
+def key_columns(tables: Iterable[Set]) -> dict[Column, set[Column]]:
     """The columns of keys and refs, each as its table's name and its own, with those that refs link it to."""
-    linked = {}
+    linked: dict[Column, set[Column]] = {}
     for table in tables:
         for column in [column for key in table.keys for column in key]:
             linked.setdefault((table.name, column), set())
@@ -97,13 +106,13 @@ def key_columns(tables):
     return linked
 
 
-def nullable(types, tables):
+def nullable(types: Types, tables: Iterable[Set]) -> set[Column]:
     """The columns that may be NULL: those of a type other than text that no key and no ref has."""
     keys = key_columns(tables)
     return {place for place, name in types.items() if name != "text" and place not in keys}
 
 
-def settled(types, tables):
+def settled(types: Types, tables: Iterable[Set]) -> Types:
     """The types, after columns that refs link have been given one type."""
     linked = key_columns(tables)
     changed = True
@@ -117,10 +126,10 @@ def settled(types, tables):
     return types
 
 
-def infer(tables, rows):
+def infer(tables: list[Set], rows: Callable[[Set], Iterable[list[str]]]) -> Types:
     """The narrowest type of each column that holds its texts unchanged; `rows` gives the rows of a table."""
     keys = key_columns(tables)
-    types = {}
+    types: Types = {}
     for table in tables:
         guesses = [Guess((table.name, column) in keys) for column in table.columns]
         for row in rows(table):
@@ -131,12 +140,12 @@ def infer(tables, rows):
     return settled(types, tables)
 
 
-def printed(types):
+def printed(types: Types) -> str:
     """The text of a file of types: one line for each column."""
     return "".join(f"{table}.{column} {name}\n" for (table, column), name in types.items())
 
 
-def read_types(path, tables):
+def read_types(path: str, tables: list[Set]) -> Types:
     """The types that a file names; a column that it leaves out is a text."""
     types = {(table.name, column): "text" for table in tables for column in table.columns}
     with open(path, encoding="utf-8-sig", errors="replace") as file:
@@ -145,9 +154,11 @@ def read_types(path, tables):
         words = line.partition("//")[0].split()
         if not words:
             continue
-        place = tuple(words[0].split("."))
+        name, _, of_table = words[0].partition(".")
+        place = name, of_table
         if len(words) != 2 or place not in types:
-            raise Refused(f"{path}: line {number}: a column of the target and its type must stand there, as in person.age integer")
+            raise Refused(f"{path}: line {number}: a column of the target and its type must stand there,"
+                          " as in person.age integer")
         if words[1] not in HOLDS:
             raise Refused(f"{path}: line {number}: {words[1]} is none of the types {', '.join(HOLDS)}")
         types[place] = words[1]
@@ -158,10 +169,11 @@ def read_types(path, tables):
     return types
 
 
-def check_cell(text, type_name, is_key):
+def check_cell(text: str, type_name: str, is_key: bool) -> str | None:
     """Why a cell can't be held under its column's type, or nothing."""
     if type_name == "text":
         return None
     if is_open(text):
-        return f"is {text or 'empty'}, and a column of a key or ref must have a value in each row: give it the type text, numbers by clio-ids, or a rule that fills it" if is_key else None
+        return (f"is {text or 'empty'}, and a column of a key or ref must have a value in each row: give it the type"
+                " text, numbers by clio-ids, or a rule that fills it") if is_key else None
     return None if HOLDS[type_name](text) else f"is {text[:80]!r}, which is no {type_name} ({FORMS[type_name]})"

@@ -1,8 +1,8 @@
 """PostgreSQL, reached by psycopg 3: the one module that speaks to it.
 
-A session is begun by what libpq takes: the name of a database, a URI, or words such as `host=db1 dbname=shop`; what they leave out
-comes from the environment, the service and password files. Values are texts, as PostgreSQL writes them, and None is NULL.
-No message has a password in it.
+A session is begun by what libpq takes: the name of a database, a URI, or words such as `host=db1 dbname=shop`; what
+they leave out comes from the environment, the service and password files. Values are texts, as PostgreSQL writes them,
+and None is NULL. No message has a password in it.
 """
 from __future__ import annotations
 
@@ -16,8 +16,10 @@ from clio_tools.program import Refused, stop_by_exception
 if TYPE_CHECKING:
     import psycopg
 
-MISSING = "PostgreSQL is reached by psycopg 3, which is missing: pip install 'psycopg[binary]' (Debian: python3-psycopg)"
-UNREADABLE = "the connection is neither a database's name, nor a URI postgresql://.., nor words such as host=db1 dbname=shop"
+MISSING = ("PostgreSQL is reached by psycopg 3, which is missing: pip install 'psycopg[binary]' (Debian:"
+           " python3-psycopg)")
+UNREADABLE = ("the connection is neither a database's name, nor a URI postgresql://.., nor words such as host=db1"
+              " dbname=shop")
 SECRETS = "password", "sslpassword"
 ESCAPES = {"b": "\b", "f": "\f", "n": "\n", "r": "\r", "t": "\t", "v": "\v"}
 ESCAPE = re.compile(r"\\(.)", re.DOTALL)
@@ -78,7 +80,9 @@ def is_missing() -> bool:
 
 
 def place_of(connection: str | None) -> Place:
-    """How a database is reached, by what libpq takes. What is none of that is refused without its text, as it may hold a password."""
+    """How a database is reached, by what libpq takes. What is none of that is refused without its text, as it may hold
+    a password.
+    """
     text = connection or ""
     if "=" not in text and not text.startswith(("postgresql://", "postgres://")):
         return Place({"dbname": text} if text else {}, {})
@@ -152,7 +156,9 @@ class Session:
         return DatabaseError(f"PostgreSQL: {cause}", error.sqlstate)
 
     def run(self, sql: str, *values: str | None) -> int:
-        """Runs a statement, or several if there are no values for `%s`; answers how many rows the last one changed or gave."""
+        """Runs a statement, or several if there are no values for `%s`; answers how many rows the last one changed or
+        gave.
+        """
         with self._told():
             cursor = self.connection.execute(cast(Any, sql), values or None)
             while cursor.nextset():
@@ -166,7 +172,8 @@ class Session:
             if result is None:
                 return []
             columns = range(result.nfields)
-            return [tuple(text_of(result.get_value(row, column)) for column in columns) for row in range(result.ntuples)]
+            return [tuple(text_of(result.get_value(row, column)) for column in columns)
+                    for row in range(result.ntuples)]
 
     def column(self, sql: str, *values: str | None) -> list[str | None]:
         """The first column of the rows of a query."""
@@ -189,7 +196,8 @@ class Session:
         with self._told():
             ended = self.connection.execute("COMMIT").statusmessage
         if ended != "COMMIT":
-            raise DatabaseError("PostgreSQL: the transaction was not committed, since a statement in it had failed", "25P02")
+            raise DatabaseError("PostgreSQL: the transaction was not committed, since a statement in it had failed",
+                                "25P02")
 
     def copied_rows(self, query: str) -> Iterator[Row]:
         """The rows of a query as texts, one after the other; each query's have to be read before the next statement."""

@@ -11,10 +11,10 @@ If the row of a null (the one in which it is itself a key, or is referred to) ha
 decides which thing it is; in a key the number of a thing stands for its null. So the `cid` of a customer is known by
 the customer's name if that is a key. With several keys the first one that is known decides, and a thing has one value
 of each key at a time: that of the last run. A null without such a row is known by the keys of the rows in which it
-stands; one that has none of these either by the text of its rule and the values that nulls.csv has, and so for each null that
-became this one (fold.csv), for which the source files are read again. What was known by a later name alone keeps its
-number when it gets a surer one. If two things become one, one of their numbers stays. A number is never given to a
-second thing.
+stands; one that has none of these either by the text of its rule and the values that nulls.csv has, and so for each
+null that became this one (fold.csv), for which the source files are read again. What was known by a later name alone
+keeps its number when it gets a surer one. If two things become one, one of their numbers stays. A number is never given
+to a second thing.
 
 A null becomes a number if it stands in a column of a key or a ref that has nulls alone when it first has rows; that is
 kept for later runs. `--number` and `--keep` decide it by hand, and may be repeated. Each other null is a value that

@@ -104,7 +104,8 @@ class Terms:
         def place(found: re.Match[str]) -> str:
             return f"{found[1]}.c{tables[found[1]][1].columns.index(found[2])}"
 
-        select = ", ".join(f"{CELL.sub(place, SQLITE.exported(one))} AS c{column}" for column, one in enumerate(exported)) or "1"
+        select = ", ".join(f"{CELL.sub(place, SQLITE.exported(one))} AS c{column}"
+                           for column, one in enumerate(exported)) or "1"
         rest = CELL.sub(place, SOURCE.sub(lambda found: f"source{names[found[1]][0]} AS {found[2]}", rest))
         columns = len(exported)
         order = ", ".join(f"c{column}" for column in range(columns))

@@ -1,4 +1,4 @@
-"""What a mapping text says, with all names looked up: tables, lines, conditions, and the rules that are written in it."""
+"""What a mapping text says, with all names looked up: tables, lines, conditions, and hand-written rules."""
 from __future__ import annotations
 
 from dataclasses import dataclass
@@ -67,7 +67,7 @@ class Mapping:
 
 
 def read_mapping(content: bytes) -> Mapping:
-    """The mapping of a text; one that clio would refuse is Unread. Limits, but for those of the sides, are not looked at."""
+    """The mapping of a text; one that clio would refuse is Unread. Of limits only those of the sides are looked at."""
     parsed = parse(content)
     faults = list(parsed.faults)
     if not faults:
@@ -82,11 +82,14 @@ def mapping_of_tree(text: tree.Tree) -> Mapping:
     """The mapping of a text without faults."""
     source, target = tables_of(trees_of(text.source)), tables_of(trees_of(text.target))
     lines = [Line(column_of(line.target.set.text, line.target.column.text, target),
-                  tuple(column_of(one.set.text, one.column.text if one.column else "", source) for one in line.arguments),
+                  tuple(column_of(one.set.text, one.column.text if one.column else "", source)
+                        for one in line.arguments),
                   line.conversion.text if line.conversion else None, line.literal.text if line.literal else None)
              for line in text.lines]
-    conditions = [Condition(column_of(one.place.set.text, one.place.column.text, source), one.test.text) for one in text.conditions]
-    return Mapping(source, target, lines, conditions, [rule_of(rule, source, target) for rule in text.rules], text.rules,
+    conditions = [Condition(column_of(one.place.set.text, one.place.column.text, source), one.test.text)
+                  for one in text.conditions]
+    rules = [rule_of(rule, source, target) for rule in text.rules]
+    return Mapping(source, target, lines, conditions, rules, text.rules,
                    text.target.end)
 
 
@@ -104,7 +107,8 @@ def column_of(set_name: str, column: str, tables: list[Table]) -> Column:
 def rule_of(text: tree.Rule, source: list[Table], target: list[Table]) -> Rule:
     """A rule: its variables are numbered as they come, then what conversions make; words besides are existential."""
     names: dict[str, int] = {}
-    premise = [Premise(number_of(atom.name.text, source), tuple([names.setdefault(cell.value.text, len(names)) for cell in atom.cells]))
+    premise = [Premise(number_of(atom.name.text, source),
+                       tuple([names.setdefault(cell.value.text, len(names)) for cell in atom.cells]))
                for atom in text.premise]
     derived = []
     for one in text.derived:
@@ -120,5 +124,6 @@ def rule_of(text: tree.Rule, source: list[Table], target: list[Table]) -> Rule:
             return Cell(VARIABLE, names[word])
         return Cell(EXISTENTIAL, unknown.setdefault(word, len(unknown)))
 
-    conclusion = [Conclusion(number_of(atom.name.text, target), tuple([cell_of(cell) for cell in atom.cells])) for atom in text.conclusion]
+    conclusion = [Conclusion(number_of(atom.name.text, target), tuple([cell_of(cell) for cell in atom.cells]))
+                  for atom in text.conclusion]
     return Rule(premise, conclusion, derived)

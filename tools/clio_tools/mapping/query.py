@@ -47,4 +47,5 @@ def parse_query(content: bytes) -> Query:
             parts.append(parser.part())
     except _Stop:
         pass
-    return Query(tuple(parts), min(parser.faults, key=lambda one: one.start, default=None))
+    first = sorted(parser.faults, key=lambda one: one.start)[:1]
+    return Query(tuple(parts), first[0] if first else None)

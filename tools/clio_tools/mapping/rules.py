@@ -1,4 +1,4 @@
-"""Rules: those that are written by hand, and those that clio prints, with their variables numbered as clio numbers them."""
+"""Rules: those written by hand, and those that clio prints, with variables numbered as clio numbers them."""
 from __future__ import annotations
 
 from collections.abc import Iterable

@@ -1,4 +1,6 @@
-"""The tables that a side declares, as clio numbers them: columns with `#id` and `#up` in front, keys, links, and optional links."""
+"""The tables that a side declares, as clio numbers them: columns with `#id` and `#up` in front, keys, links, and
+optional links.
+"""
 from __future__ import annotations
 
 from collections.abc import Iterable, Iterator
@@ -96,7 +98,8 @@ def words(tokens: Iterable[Token]) -> list[Word]:
 
 def tree_of(one: SetText) -> SetTree:
     """A set as it is declared."""
-    references = [Reference(words(ref.columns), Word.of(ref.set), words(ref.referred), ref.optional is not None) for ref in one.refs]
+    references = [Reference(words(ref.columns), Word.of(ref.set), words(ref.referred), ref.optional is not None)
+                  for ref in one.refs]
     dependencies = [Dependency(words(each.columns), words(each.decided)) for each in one.dependencies]
     return SetTree(Word.of(one.name), words(one.columns), [words(key.columns) for key in one.keys], references,
                    [tree_of(inner) for inner in one.inner], dependencies)
@@ -120,7 +123,8 @@ def tables_of(trees: Iterable[SetTree]) -> list[Table]:
 
     def visit(tree: SetTree, parent: int | None) -> None:
         number = len(tables)
-        tables.append(Table(tree.name, ["#id"] * bool(tree.inner) + ["#up"] * (parent is not None) + list[str](tree.columns), tree, parent))
+        columns = ["#id"] * bool(tree.inner) + ["#up"] * (parent is not None) + list[str](tree.columns)
+        tables.append(Table(tree.name, columns, tree, parent))
         if parent is not None:
             tables[parent].inner.append(number)
         for inner in tree.inner:

@@ -90,7 +90,8 @@ class Mapping:
         except Refused as why:
             raise ValueError(str(why)) from None
         self.source, self.target = sets_of(read.source), sets_of(read.target)
-        self.conditions = [Condition(self.source[one.column.table].name, self.source[one.column.table].columns[one.column.column], one.test)
+        self.conditions = [Condition(self.source[one.column.table].name,
+                                     self.source[one.column.table].columns[one.column.column], one.test)
                            for one in read.conditions]
 
     def passing(self, table: Set, rows: Iterable[list[str]]) -> Iterator[list[str]]:
