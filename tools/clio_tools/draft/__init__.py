@@ -1,1 +1,1 @@
-"""What clio-draft is made of: the schemas that are there, as one side of a mapping text, and the files that this side reads."""
+"""The schemas that are there, as one side of a mapping text, and the files that this side reads."""

@@ -5,58 +5,73 @@
     clio-draft csv FOLDER [--delimiter SIGN] [OPTION ..]
     clio-draft json FILE [OPTION ..]
 
-The text has the tables with their columns, keys and refs, as the catalog of the database has them, or the headers of the files, or the members of the
-objects. A name that is no word of a mapping text becomes one; a comment says which. What can't be said stands as a comment with the reason: a ref of a table
-to itself, or one that closes a circle; a table with more than 64 columns; a column of bytes. Two sides and some lines make a mapping:
+The text has the tables with their columns, keys and refs, as the catalog of the database has them, or the headers of
+the files, or the members of the objects. A name that is no word of a mapping text becomes one; a comment says which.
+What can't be said stands as a comment with the reason: a ref of a table to itself, or one that closes a circle; a table
+with more than 64 columns; a column of bytes. Two sides and some lines make a mapping:
 
-    (echo 'mapping 1;'; clio-draft sqlite old.db --data .; clio-draft sqlite new.db --side target; cat lines) > mapping.clio
+    (echo 'mapping 1;'; clio-draft sqlite old.db --data .; clio-draft sqlite new.db --side target; cat lines) \\
+      > mapping.clio
 
 OPTIONS
 `--side target` prints the target, of which no data is read; `--side source` is the default.
 
-`--drawing` prints the side for a drawing (man clio-rules): refs in a circle are kept, and those of the target that may be NULL are optional, which
-takes `mapping 2;` on top. With `--side target --lines-from FILE`, where FILE has the source that clio-draft printed, `rows` and `line`s are proposed
-as comments: for sets and columns of the same names, and by each way that there is.
+`--drawing` prints the side for a drawing (man clio-rules): refs in a circle are kept, and those of the target that may
+be NULL are optional, which takes `mapping 2;` on top. With `--side target --lines-from FILE`, where FILE has the source
+that clio-draft printed, `rows` and `line`s are proposed as comments: for sets and columns of the same names, and by
+each way that there is.
 
-`--data FOLDER` writes the source's files into the folder, as clio reads them: NULL as the empty text, numbers as their digits. Remarks
-on standard error say what a reader should know: NULL beside empty texts in a column, rows that a ref doesn't match, a limit that is passed.
+`--data FOLDER` writes the source's files into the folder, as clio reads them: NULL as the empty text, numbers as their
+digits. Remarks on standard error say what a reader should know: NULL beside empty texts in a column, rows that a ref
+doesn't match, a limit that is passed.
 
-`--mapping FILE` writes the data for the sets that a mapping text declares, with the columns in their order, and prints nothing. So a file with
-its columns in another order, or a database with more tables, is read by a mapping that is there. Of a document, remarks tell members and arrays that the
-mapping doesn't have, which are left out; a declared member that no object has is empty.
+`--mapping FILE` writes the data for the sets that a mapping text declares, with the columns in their order, and prints
+nothing. So a file with its columns in another order, or a database with more tables, is read by a mapping that is
+there. Of a document, remarks tell members and arrays that the mapping doesn't have, which are left out; a declared
+member that no object has is empty.
 
-`--null TEXT` writes NULL, and null in a document, as this text in place of the empty one, so that they stay apart. It is refused if something else is
-this text. `clio-tables --null TEXT` makes NULL of it again.
+`--null TEXT` writes NULL, and null in a document, as this text in place of the empty one, so that they stay apart. It
+is refused if something else is this text. `clio-tables --null TEXT` makes NULL of it again.
 
-`--delimiter SIGN` is the sign between the fields of the files: a single one, or tab, comma, semicolon or pipe. It is a comma if it is left out.
+`--delimiter SIGN` is the sign between the fields of the files: a single one, or tab, comma, semicolon or pipe. It is a
+comma if it is left out.
 
 PLACES
-SQLite is read by Python's own module, in one transaction. PostgreSQL is read by psycopg 3 (`pip install 'psycopg[binary]'`, Debian:
-python3-psycopg): CONNINFO is what `psql -d` takes (a name of a database, a URI, `host=.. dbname=..`), and SCHEMA is public if it is left
-out. Views, and parts of partitioned tables, are no tables here.
+SQLite is read by Python's own module, in one transaction. PostgreSQL is read by psycopg 3
+(`pip install 'psycopg[binary]'`, Debian: python3-psycopg): CONNINFO is what `psql -d` takes (a name of a database, a
+URI, `host=.. dbname=..`), and SCHEMA is public if it is left out. Views, and parts of partitioned tables, are no tables
+here.
 
-A folder has a table in each file .csv or .tsv. A quote that is never closed, text after a closing quote, and a record of another width than the header are refused.
+A folder has a table in each file .csv or .tsv. A quote that is never closed, text after a closing quote, and a record
+of another width than the header are refused.
 
-A document is an array of objects, or an object of such arrays, or has an object in each line. Flat objects become CSV. An array in an object
-is an inner set, also one of single values (with the column `value`); the members of an object in an object are columns `member_column`. A fraction becomes its text.
+A document is an array of objects, or an object of such arrays, or has an object in each line. Flat objects become CSV.
+An array in an object is an inner set, also one of single values (with the column `value`); the members of an object in
+an object are columns `member_column`. A fraction becomes its text.
 
 This tool is not proved; its tests try it, and dev/check does so on PostgreSQL.
 """
 import argparse
 import pathlib
+from collections.abc import Iterable
 
 from clio_tools.draft import delimited, document, postgres, sqlite
-from clio_tools.program import Refused, remark, run
-from clio_tools.draft.data import Written
-from clio_tools.draft.model import Side, find_set
+from clio_tools.draft.data import Rows, Written
+from clio_tools.draft.model import Side, Table, find_set
 from clio_tools.draft.names import shown
 from clio_tools.draft.proposals import proposals
 from clio_tools.draft.text import side_text
-from clio_tools.mapping.text import read_sets
+from clio_tools.mapping.text import Set, read_sets
+from clio_tools.program import Refused, remark, run
+
+Base = sqlite.Base | postgres.Base | delimited.Base | document.Base
+# a table, the order of its columns, the set of the mapping if there is one
+Wanted = tuple[Table, list[str], Set | None]
 
 
-def words_of(words):
-    parser = argparse.ArgumentParser(prog="clio-draft", description="Prints one side of a mapping text from what is there.",
+def words_of(words: list[str]) -> argparse.Namespace:
+    parser = argparse.ArgumentParser(prog="clio-draft",
+                                     description="Prints one side of a mapping text from what is there.",
                                      epilog="`clio-draft sqlite --help` has the options; the manual is man clio-draft.")
     kinds = parser.add_subparsers(dest="kind", required=True, metavar="sqlite|postgres|csv|json")
     for kind, places in ("sqlite", ["FILE"]), ("postgres", ["CONNINFO"]), ("csv", ["FOLDER"]), ("json", ["FILE"]):
@@ -70,9 +85,11 @@ def words_of(words):
         one.add_argument("--drawing", action="store_true", help="print the side for a drawing, with refs in a circle")
         one.add_argument("--lines-from", metavar="FILE", help="print lines from the source in this file, as comments")
         one.add_argument("--data", metavar="FOLDER", help="write the files that the source reads into this folder")
-        one.add_argument("--mapping", metavar="FILE", help="write them for the sets of this mapping text, and print nothing")
+        one.add_argument("--mapping", metavar="FILE",
+                         help="write them for the sets of this mapping text, and print nothing")
         if kind != "csv":
-            one.add_argument("--null", metavar="TEXT", help="write NULL as this text, which nothing else may be, and not as the empty one")
+            one.add_argument("--null", metavar="TEXT",
+                             help="write NULL as this text, which nothing else may be, and not as the empty one")
     given = parser.parse_args(words)
     if given.side == "target" and given.data:
         parser.error("--data is for the source: of the target no data is read")
@@ -84,7 +101,7 @@ def words_of(words):
     return given
 
 
-def opened(given):
+def opened(given: argparse.Namespace) -> tuple[Base, list[str | pathlib.Path]]:
     """What is read, and the files that must not be written over."""
     if given.kind == "sqlite":
         return sqlite.Base(given.place), [given.place]
@@ -97,27 +114,28 @@ def opened(given):
     return document.Base(given.place), [given.place]
 
 
-def wanted_sets(base, side, mapping):
-    """The tables whose data is written, each with the order of its columns, and the set of the mapping if there is one."""
+def wanted_sets(base: Base, side: Side, mapping: str | None) -> list[Wanted]:
+    """The tables whose data is written."""
     if mapping is None:
         return [(table, [column.word for column in table.said], None) for table in side.said]
     try:
         sets = read_sets(pathlib.Path(mapping).read_text(encoding="utf-8", errors="replace"))["source"]
     except ValueError as error:
         raise Refused(f"{mapping}: {error}") from None
-    wanted = []
+    wanted: list[Wanted] = []
     for one in sets:
         if one.parent is None:
             table = find_set(side, one.name)
             there = [column.word for column in table.said]
             missing = [column for column in one.declared if column not in there]
             if missing and not isinstance(base, document.Base):
-                raise Refused(f"{shown(table.name)} has no column for {', '.join(missing)} of {mapping}: it has {', '.join(there)}")
+                raise Refused(f"{shown(table.name)} has no column for {', '.join(missing)} of {mapping}:"
+                              f" it has {', '.join(there)}")
             wanted.append((table, one.declared, one))
     return wanted
 
 
-def write_data(base, wanted, written):
+def write_data(base: Base, wanted: list[Wanted], written: Written) -> None:
     """Writes the files of these tables."""
     if isinstance(base, document.Base):
         for table, order, one in wanted:
@@ -125,15 +143,19 @@ def write_data(base, wanted, written):
             if table.inner if one is None else one.inner:
                 written.document(table, objects)
             else:
-                written.table(table, ([made[word] for word in order] for made in objects), order, order)
+                written.table(table, ([made.cells[word] for word in order] for made in objects), order, order)
         return
     tables = [table for table, _, _ in wanted]
-    pairs = base.all_rows(tables) if hasattr(base, "all_rows") else ((table, base.rows(table)) for table in tables)
+    pairs: Iterable[tuple[Table, Rows]]
+    if isinstance(base, postgres.Base):
+        pairs = base.all_rows(tables)
+    else:
+        pairs = ((table, base.rows(table)) for table in tables)
     for (_, order, _), (table, rows) in zip(wanted, pairs):
         written.table(table, rows, [column.word for column in table.said], order)
 
 
-def work(words):
+def work(words: list[str]) -> None:
     given = words_of(words)
     base, sources = opened(given)
     side = Side(given.side, base.tables(), given.drawing)
@@ -151,5 +173,5 @@ def work(words):
         print(proposals(pathlib.Path(given.lines_from).read_bytes(), side), end="")
 
 
-def main():
+def main() -> None:
     run("clio-draft", work)

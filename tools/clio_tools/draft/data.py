@@ -1,10 +1,16 @@
 """The files that a side reads, written into a folder."""
 import json
 import pathlib
+from collections.abc import Callable, Iterable, Iterator, Sequence
+from typing import TextIO, TypeAlias
 
 from clio_tools.csv import read_table, record_text
+from clio_tools.draft.model import Made, Remark, Table
 from clio_tools.program import Refused
 from clio_tools.safe_files import replaced
+
+Rows = Iterable[Sequence[str | None]]  # the texts of rows, with nothing for NULL
+Filled: TypeAlias = "dict[str, str | list[Filled]]"
 
 MOST_CELLS = 4_000_000
 MOST_BYTES = 67_108_864
@@ -13,7 +19,8 @@ MOST_BYTES = 67_108_864
 class Written:
     """Writes files and counts what clio limits; `remark` takes what a reader should know."""
 
-    def __init__(self, folder, sources, remark, null=None):
+    def __init__(self, folder: str, sources: Iterable[str | pathlib.Path], remark: Remark,
+                 null: str | None = None) -> None:
         self.folder = pathlib.Path(folder)
         self.folder.mkdir(parents=True, exist_ok=True)
         self.sources = [pathlib.Path(one).resolve() for one in sources]
@@ -22,7 +29,7 @@ class Written:
         self.cells = 0
         self.bytes = 0
 
-    def _replace(self, name, write):
+    def _replace(self, name: str, write: Callable[[TextIO], object]) -> None:
         """Writes a file, which takes its place when it is whole."""
         path = self.folder / name
         if path.resolve() in self.sources:
@@ -31,13 +38,13 @@ class Written:
             write(file)
         self.bytes += path.stat().st_size
 
-    def table(self, table, rows, words, order):
+    def table(self, table: Table, rows: Rows, words: list[str], order: list[str]) -> None:
         """Writes a table as CSV: rows have the columns with these words, and are written in this order."""
         places = [words.index(word) for word in order]
         nulls, empties = [0] * len(words), [0] * len(words)
         count = 0
 
-        def write(file):
+        def write(file: TextIO) -> None:
             nonlocal count
             file.write(record_text(order))
             for row in rows:
@@ -52,9 +59,10 @@ class Written:
         for word, null, empty in zip(words, nulls, empties):
             if null and empty and not self.null:
                 both = f"NULL, which stands there {times(null)}, and the empty text, {times(empty)}"
-                self.remark(f"{table.word}.{word}: {both}, are both written as the empty text: --null TEXT keeps them apart")
+                self.remark(f"{table.word}.{word}: {both}, are both written as the empty text: --null TEXT keeps them"
+                            " apart")
 
-    def text(self, cell, column):
+    def text(self, cell: str | None, column: str) -> str:
         """The text of a cell; nothing else than NULL may be the text of NULL."""
         if cell is None:
             return self.null or ""
@@ -62,23 +70,26 @@ class Written:
             raise Refused(f"{column} has the text {cell[:60]!r} itself: give --null another one")
         return cell
 
-    def document(self, table, objects):
+    def document(self, table: Table, objects: list[Made]) -> None:
         """Writes the objects of a set with inner ones as a document."""
-        filled = self.filled(objects, table.word)
+        filled = [self.filled(one, table.word) for one in objects]
         self._replace(table.word + ".json", lambda file: file.write(json.dumps(filled, ensure_ascii=False) + "\n"))
-        self.cells += sum(cells_of(one) for one in filled)
+        self.cells += sum(one.size() for one in objects)
 
-    def filled(self, objects, name):
-        """Objects with a text in the place of each null."""
-        return [{word: self.filled(value, word) if isinstance(value, list) else self.text(value, f"{name}.{word}") for word, value in one.items()}
-                for one in objects]
+    def filled(self, one: Made, name: str) -> Filled:
+        """An object with a text in the place of each null."""
+        made: Filled = {word: self.text(cell, f"{name}.{word}") for word, cell in one.cells.items()}
+        for word, array in one.inner.items():
+            made[word] = [self.filled(each, word) for each in array]
+        return made
 
-    def check_limits(self):
+    def check_limits(self) -> None:
         for what, count, most in ("cells", self.cells, MOST_CELLS), ("bytes", self.bytes, MOST_BYTES):
             if count > most:
-                self.remark(f"the files have {count} {what}, and clio takes at most {most}: split them, or run the script on your own engine")
+                self.remark(f"the files have {count} {what}, and clio takes at most {most}: split them, or run the"
+                            " script on your own engine")
 
-    def check_refs(self, table, drawing=False):
+    def check_refs(self, table: Table, drawing: bool = False) -> None:
         """Says how many rows of a table have no match along each ref."""
         for ref in table.refs:
             own, referred = ref.words(table)
@@ -90,11 +101,11 @@ class Written:
                 self.remark(f"{table.word}: {rows} no match in {ref.other.word} by ({', '.join(own)}){what}")
 
 
-def times(count):
+def times(count: int) -> str:
     return "once" if count == 1 else f"{count} times"
 
 
-def tuples(folder, table, words):
+def tuples(folder: pathlib.Path, table: Table, words: list[str]) -> Iterator[tuple[str, ...]]:
     """The texts of these columns in each row of a file that was written."""
     columns = header_of(folder / (table.word + ".csv"))
     places = [columns.index(word) for word in words]
@@ -102,10 +113,6 @@ def tuples(folder, table, words):
         yield tuple(row[place] for place in places)
 
 
-def header_of(path):
+def header_of(path: pathlib.Path) -> list[str]:
     with open(path, encoding="utf-8") as file:
         return file.readline().rstrip("\n").split(",")
-
-
-def cells_of(one):
-    return 1 + sum(sum(cells_of(each) for each in value) if isinstance(value, list) else 1 for value in one.values())

@@ -1,9 +1,13 @@
-"""Tables as they are found, and the sets that they become: what can be said in a mapping text, and why the rest can't."""
-import dataclasses
+"""Tables as they are found, and the sets that they become: what a mapping text can say of them, and why not more."""
+from __future__ import annotations
 
-from clio_tools.program import Refused
+import dataclasses
+from collections.abc import Callable, Iterable, Iterator
 
 from clio_tools.draft.names import RESERVED, Words, shown
+from clio_tools.program import Refused
+
+Remark = Callable[[str], None]  # takes what a reader should know
 
 MOST_COLUMNS = 64
 MOST_TABLES = 64
@@ -23,15 +27,19 @@ class Column:
 
 @dataclasses.dataclass
 class Ref:
-    """A link by columns to columns of another table; without an other table, `why_not` says why."""
+    """A link by columns to columns of another table; if that is none of those that were found, it has a name alone, and
+    `why_not` says why.
+    """
 
-    columns: list
-    other: object
-    referred: list
+    columns: list[str]
+    other: Table
+    referred: list[str]
     why_not: str = ""
 
-    def words(self, table):
-        return [table.column(name).word for name in self.columns], [self.other.column(name).word for name in self.referred]
+    def words(self, table: Table) -> tuple[list[str], list[str]]:
+        """The words of the columns, and of those that they refer to."""
+        return ([table.column(name).word for name in self.columns],
+                [self.other.column(name).word for name in self.referred])
 
 
 @dataclasses.dataclass(eq=False)
@@ -39,43 +47,55 @@ class Table:
     """A table as it is found, with the tables inside it."""
 
     name: str
-    columns: list
-    keys: list = dataclasses.field(default_factory=list)
-    refs: list = dataclasses.field(default_factory=list)
-    inner: list = dataclasses.field(default_factory=list)
-    parent: object = None
-    notes: list = dataclasses.field(default_factory=list)
+    columns: list[Column]
+    keys: list[list[str]] = dataclasses.field(default_factory=list)
+    refs: list[Ref] = dataclasses.field(default_factory=list)
+    inner: list[Table] = dataclasses.field(default_factory=list)
+    parent: Table | None = None
+    notes: list[str] = dataclasses.field(default_factory=list)
     why_not: str = ""
     word: str = ""
     is_of_catalog: bool = False  # whether it is known which columns may be NULL
 
-    def column(self, name):
+    def column(self, name: str) -> Column:
         return next(column for column in self.columns if column.name == name)
 
-    def words(self, names):
+    def words(self, names: Iterable[str]) -> str:
         """The words of columns, in a comment."""
         known = {column.name: column.word for column in self.columns}
         return ", ".join(known.get(name) or shown(name) for name in names)
 
     @property
-    def said(self):
+    def said(self) -> list[Column]:
         """The columns that stand in the text."""
         return [column for column in self.columns if not column.why_not]
 
-    def within(self):
+    def within(self) -> Iterator[Table]:
         """This table and those inside it."""
         yield self
         for one in self.inner:
             yield from one.within()
 
-    def depth(self):
+    def depth(self) -> int:
         return 1 if self.parent is None else 1 + self.parent.depth()
+
+
+@dataclasses.dataclass
+class Made:
+    """An object of a document as clio reads it: the texts of its columns, and the objects of its inner sets."""
+
+    cells: dict[str, str | None]
+    inner: dict[str, list[Made]]
+
+    def size(self) -> int:
+        """How many cells it has, with those of the objects inside it, and one more for each object."""
+        return 1 + len(self.cells) + sum(one.size() for array in self.inner.values() for one in array)
 
 
 class Side:
     """One side of a mapping text, or of a drawing, which can have refs in a circle, and as many as there are."""
 
-    def __init__(self, name, roots, drawing=False):
+    def __init__(self, name: str, roots: list[Table], drawing: bool = False) -> None:
         self.name = name
         self.drawing = drawing
         self.roots = roots
@@ -90,11 +110,11 @@ class Side:
             self._judge_refs(table, refs)
 
     @property
-    def said(self):
+    def said(self) -> list[Table]:
         """The root tables that stand in the text."""
         return [table for table in self.roots if not table.why_not]
 
-    def _name_all(self):
+    def _name_all(self) -> None:
         words = Words(RESERVED if self.name == "target" else ())
         for table in self.tables:
             table.word = words.give(table.name)
@@ -103,7 +123,7 @@ class Side:
             for column in table.columns:
                 column.word = own.give(column.name)
 
-    def _judge_tables(self):
+    def _judge_tables(self) -> None:
         count = 0
         for table in self.tables:
             width = len(table.said) + bool(table.inner) + (table.parent is not None)
@@ -120,8 +140,8 @@ class Side:
             else:
                 count += 1
 
-    def _judge_keys(self, table):
-        kept = []
+    def _judge_keys(self, table: Table) -> None:
+        kept: list[list[str]] = []
         for key in table.keys:
             if any(table.column(name).why_not for name in key):
                 table.notes.append(f"key ({table.words(key)}): one of its columns is left out")
@@ -129,7 +149,7 @@ class Side:
                 kept.append(key)
         table.keys = kept
 
-    def _judge_refs(self, table, refs):
+    def _judge_refs(self, table: Table, refs: list[Ref]) -> None:
         for ref in refs:
             ref.why_not = ref.why_not or self._why_no_ref(table, ref)
             if not ref.why_not:
@@ -138,32 +158,32 @@ class Side:
                     table.refs.remove(ref)
                     ref.why_not = f"with it more than {MOST_OCCURRENCES} tables would follow from one along refs"
             if ref.why_not:
-                is_here = isinstance(ref.other, Table)
-                other = ref.other.word if is_here else shown(ref.other)
-                other_words = ref.other.words(ref.referred) if is_here else ", ".join(map(shown, ref.referred))
-                table.notes.append(f"ref ({table.words(ref.columns)}) -> {other}{f' ({other_words})' if other_words else ''}: {ref.why_not}")
+                referred = ref.other.words(ref.referred)
+                other = (ref.other.word or shown(ref.other.name)) + (f" ({referred})" if referred else "")
+                table.notes.append(f"ref ({table.words(ref.columns)}) -> {other}: {ref.why_not}")
 
-    def _why_no_ref(self, table, ref):
+    def _why_no_ref(self, table: Table, ref: Ref) -> str:
         if ref.other is table and not self.drawing:
             return "a set can't refer to itself; a rule can make such a link"
         if ref.other.why_not:
             return "that set is left out"
-        if any(table.column(name).why_not for name in ref.columns) or any(ref.other.column(name).why_not for name in ref.referred):
+        columns = [*map(table.column, ref.columns), *map(ref.other.column, ref.referred)]
+        if any(column.why_not for column in columns):
             return "one of its columns is left out"
-        if len(ref.columns) != len(ref.referred) or len(set(ref.columns)) < len(ref.columns) or len(set(ref.referred)) < len(ref.referred):
+        if not len(ref.columns) == len(ref.referred) == len(set(ref.columns)) == len(set(ref.referred)):
             return "its columns don't go to so many different ones"
         if not self.drawing and self._leads(ref.other, table):
             return "it would close a circle of refs; a rule can make such a link"
         return ""
 
-    def _leads(self, start, goal):
+    def _leads(self, start: Table, goal: Table) -> bool:
         return start is goal or any(self._leads(ref.other, goal) for ref in start.refs if ref.other is not start)
 
-    def _occurrences(self):
+    def _occurrences(self) -> dict[Table, int]:
         """How many tables follow from each along refs and to the set around it, with itself."""
-        counts = {}
+        counts: dict[Table, int] = {}
 
-        def count(table):
+        def count(table: Table) -> int:
             if table not in counts:
                 around = [table.parent] if table.parent is not None else []
                 counts[table] = 1 + sum(count(other) for other in [ref.other for ref in table.refs] + around)
@@ -174,9 +194,10 @@ class Side:
         return counts
 
 
-def find_set(side, name):
+def find_set(side: Side, name: str) -> Table:
     """The root table that became a set of this name."""
     for table in side.said:
         if table.word == name:
             return table
-    raise Refused(f"the mapping has a set {name}, and nothing here becomes it: {', '.join(table.word for table in side.said)[:300] or 'there is no table'}")
+    there = ", ".join(table.word for table in side.said)[:300] or "there is no table"
+    raise Refused(f"the mapping has a set {name}, and nothing here becomes it: {there}")

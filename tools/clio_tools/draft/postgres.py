@@ -5,17 +5,20 @@ from clio_tools.databases.postgres import Row, Session, identifier
 from clio_tools.draft.model import Column, Ref, Table
 from clio_tools.program import Refused
 
-SETTINGS = {"datestyle": "ISO", "intervalstyle": "postgres", "timezone": "UTC", "bytea_output": "hex", "extra_float_digits": "1"}
+SETTINGS = {"datestyle": "ISO", "intervalstyle": "postgres", "timezone": "UTC", "bytea_output": "hex",
+            "extra_float_digits": "1"}
 ONE_STATE = "BEGIN ISOLATION LEVEL REPEATABLE READ READ ONLY"
 
 TABLES = """SELECT c.oid, c.relname FROM pg_catalog.pg_class c JOIN pg_catalog.pg_namespace n ON n.oid = c.relnamespace
  WHERE n.nspname = %s AND c.relkind IN ('r', 'p', 'f') AND NOT c.relispartition ORDER BY c.relname"""
-COLUMNS = """SELECT a.attrelid, a.attnum, a.attname, a.attnotnull, pg_catalog.format_type(a.atttypid, NULL) FROM pg_catalog.pg_attribute a
+COLUMNS = """SELECT a.attrelid, a.attnum, a.attname, a.attnotnull, pg_catalog.format_type(a.atttypid, NULL)
+ FROM pg_catalog.pg_attribute a
  WHERE a.attnum > 0 AND NOT a.attisdropped AND a.attrelid = ANY (%s::oid[]) ORDER BY a.attrelid, a.attnum"""
 KEYS = """SELECT i.indrelid, i.indkey, i.indnkeyatts FROM pg_catalog.pg_index i
  WHERE i.indisunique AND i.indisvalid AND i.indpred IS NULL AND i.indexprs IS NULL AND i.indrelid = ANY (%s::oid[])
  ORDER BY i.indrelid, NOT i.indisprimary, i.indexrelid"""
-REFS = """SELECT r.conrelid, r.conkey, r.confrelid, r.confkey, r.confrelid::regclass::text FROM pg_catalog.pg_constraint r
+REFS = """SELECT r.conrelid, r.conkey, r.confrelid, r.confkey, r.confrelid::regclass::text
+ FROM pg_catalog.pg_constraint r
  WHERE r.contype = 'f' AND r.conparentid = 0 AND r.conrelid = ANY (%s::oid[]) ORDER BY r.conrelid, r.conname"""
 
 
@@ -43,10 +46,10 @@ class Base:
                 named[oid].keys.append([numbers[oid, number] for number in key.split(" ")[: int(count)]])
             for oid, own, other, referred, name in self._all(REFS, oids):
                 columns = [numbers[oid, number] for number in listed(own)]
+                ref = Ref(columns, Table(name, []), [], "that table is not among those of the schema")
                 if other in named:
-                    named[oid].refs.append(Ref(columns, named[other], [numbers[other, number] for number in listed(referred)]))
-                else:
-                    named[oid].refs.append(Ref(columns, name, [], "that table is not among those of the schema"))
+                    ref = Ref(columns, named[other], [numbers[other, number] for number in listed(referred)])
+                named[oid].refs.append(ref)
             return list(named.values())
 
     def _all(self, query: str, value: str) -> list[list[str]]:
@@ -54,11 +57,14 @@ class Base:
         return [[cell or "" for cell in row] for row in self.session.rows(query, value)]
 
     def all_rows(self, tables: list[Table]) -> Iterator[tuple[Table, Iterator[Row]]]:
-        """For each table its rows as texts, with nothing for NULL, all of one moment; each has to be read before the next."""
+        """For each table its rows as texts, with nothing for NULL, all of one moment; each has to be read before the
+        next.
+        """
         with self.session.transaction(ONE_STATE):
             for table in tables:
                 cells = ", ".join(f"{identifier(column.name)}::text" for column in table.said)
-                yield table, self.session.copied_rows(f"SELECT {cells} FROM {identifier(self.schema)}.{identifier(table.name)}")
+                there = f"{identifier(self.schema)}.{identifier(table.name)}"
+                yield table, self.session.copied_rows(f"SELECT {cells} FROM {there}")
 
 
 def listed(array: str) -> list[str]:

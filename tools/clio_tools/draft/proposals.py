@@ -1,7 +1,8 @@
 """Notes of a drawing that names suggest, as comments: from which set the rows of a target set come, and lines."""
 import re
-from typing import Any, Iterator, Optional
+from typing import Iterator, Optional
 
+from clio_tools.draft import model
 from clio_tools.mapping.parser import parse
 from clio_tools.mapping.schema import Schema, Table, schema_of
 from clio_tools.program import Refused
@@ -10,7 +11,7 @@ from clio_tools.rules.ways import Step, Ways, spelled
 HEAD = "\n// What names suggest: take away the // of what is meant.\n"
 
 
-def proposals(source_text: bytes, side: Any) -> str:
+def proposals(source_text: bytes, side: model.Side) -> str:
     """The proposed notes for a target side, of a source side as clio-draft printed it."""
     found = re.search(rb"^source \{.*?^\}", source_text, re.M | re.S)
     parsed = parse(b"mapping 3;\n" + (found[0] if found else b"") + b"\ntarget { }\n", drawing=True)
@@ -29,7 +30,7 @@ class _Proposing:
         self.source, self.ways = source, Ways(source)
         self.free = [table for table in source.tables if _plain(table.name) not in targets]
 
-    def of_set(self, table: Any) -> Iterator[str]:
+    def of_set(self, table: model.Table) -> Iterator[str]:
         """The notes for one target set."""
         words = [column.word for column in table.said]
         start = self._alike(table.word, words)

@@ -1,13 +1,17 @@
 """A side of a mapping text, printed."""
+from collections.abc import Iterator
+
+from clio_tools.draft.model import Ref, Side, Table
 from clio_tools.draft.names import shown
 
 NO_MATCH = {
-    "source": "and lines drop rows without a match: leave the ref out if no line needs it, or make it optional (mapping 2)",
+    "source": "and lines drop rows without a match: leave the ref out if no line needs it, or make it optional"
+              " (mapping 2)",
     "target": "but a row without a link would get one to a row of nulls: make the ref optional (mapping 2)",
 }
 
 
-def side_text(side):
+def side_text(side: Side) -> str:
     """The text, with what can't be said as comments."""
     lines = [f"{side.name} {{", *("  " + line for line in renamed(side))]
     for table in side.roots:
@@ -15,7 +19,7 @@ def side_text(side):
     return "\n".join(lines + ["}"]) + "\n"
 
 
-def renamed(side):
+def renamed(side: Side) -> Iterator[str]:
     """The names that are no words, each with its word."""
     for table in side.tables:
         if table.word != table.name:
@@ -25,7 +29,7 @@ def renamed(side):
                 yield f"// {shown(table.name)}.{shown(column.name)} is {table.word}.{column.word}"
 
 
-def set_lines(table, side_name, blanks, drawing=False):
+def set_lines(table: Table, side_name: str, blanks: str, drawing: bool = False) -> list[str]:
     """The lines of a set, or the comment in its place."""
     if table.why_not:
         return [f"{blanks}// {shown(table.name)} is left out: {table.why_not}"]
@@ -41,7 +45,7 @@ def set_lines(table, side_name, blanks, drawing=False):
     return lines + [f"{blanks}}}"]
 
 
-def wrapped(words, blanks):
+def wrapped(words: list[str], blanks: str) -> list[str]:
     """The columns, in lines that are not too long."""
     lines, line = [], blanks
     for place, word in enumerate(words):
@@ -53,13 +57,13 @@ def wrapped(words, blanks):
     return lines + [line.rstrip()]
 
 
-def filled_line(table, side_name):
+def filled_line(table: Table, side_name: str) -> list[str]:
     """A comment on the columns of the target that must have a value in each row."""
     filled = [column.word for column in table.said if not column.may_be_null]
     return [f"// NOT NULL: {', '.join(filled)}"] if filled and side_name == "target" and table.is_of_catalog else []
 
 
-def key_line(table, key, side_name):
+def key_line(table: Table, key: list[str], side_name: str) -> str:
     columns = [table.column(name) for name in key]
     line = f"key ({', '.join(column.word for column in columns)});"
     if side_name == "target" and any(column.may_be_null for column in columns):
@@ -67,8 +71,8 @@ def key_line(table, key, side_name):
     return line
 
 
-def ref_lines(table, side_name, drawing=False):
-    seen = []
+def ref_lines(table: Table, side_name: str, drawing: bool = False) -> Iterator[str]:
+    seen: list[Table] = []
     for ref in table.refs:
         own, referred = ref.words(table)
         line = f"ref ({', '.join(own)}) -> {ref.other.word} ({', '.join(referred)})"
@@ -76,15 +80,18 @@ def ref_lines(table, side_name, drawing=False):
         if drawing:
             line += drawn(table, ref, side_name, may_be_null)
         elif ref.other in seen:
-            line += f";  // a second ref to {ref.other.word}: a line of it goes both ways, so leave one out, or draw (man clio-rules)"
+            line += (f";  // a second ref to {ref.other.word}: a line of it goes both ways, so leave one out, or draw"
+                     " (man clio-rules)")
         else:
             line += f";  // NULL is allowed there, {NO_MATCH[side_name]}" if may_be_null else ";"
         seen.append(ref.other)
         yield line
 
 
-def drawn(table, ref, side_name, may_be_null):
-    """The end of a ref in a drawing: one of the target that may be NULL is optional; of several to one set, how a line says which."""
+def drawn(table: Table, ref: Ref, side_name: str, may_be_null: bool) -> str:
+    """The end of a ref in a drawing: one of the target that may be NULL is optional; of several to one set, how a line
+    says which.
+    """
     own, _ = ref.words(table)
     step = own[0] if len(own) == 1 else f"({', '.join(own)})"
     several = sum(other.other is ref.other for other in table.refs) > 1 or ref.other is table
