@@ -10,7 +10,9 @@ from typing import Any, Iterator, NamedTuple, Optional
 
 from trial import PROGRAM
 
-from clio_tools.rules.whole import printed, worked_out
+from clio_tools.mapping.tree import Argument, Line
+from clio_tools.rules.lines_alone import bare_text, circular_refs
+from clio_tools.rules.whole import printed, read, worked_out
 from clio_tools.rules.writing import write
 
 Table = list[tuple[Optional[str], ...]]
@@ -32,6 +34,15 @@ def draw(folder: pathlib.Path) -> str:
     made = printed(drawing)
     write(folder, made, "drawing.clio")
     return made.text
+
+
+def lines_alone(content: bytes) -> str:
+    """The mapping of a drawing's lines without their notes."""
+    drawing = read(content)
+    lines = [Line(one.start, one.end, one.literal, one.conversion,
+                  tuple(Argument(of.start, of.end, of.set, of.column) for of in one.arguments), one.target)
+             for one in drawing.tree.lines if all(of.column for of in one.arguments)]
+    return bare_text(drawing, lines, list(drawing.tree.target.sets), circular_refs(drawing))
 
 
 def clio(folder: pathlib.Path, *words: str) -> tuple[int, str, str]:

@@ -7,14 +7,12 @@ import unittest
 from collections import Counter
 
 from drawing_cases import cases
-from drawing_trial import differences, draw
+from drawing_trial import differences, draw, lines_alone
 import random_trees
 from random_drawings import tried
 from trial import TIMES, Trial
 
-from clio_tools.rules.lines_alone import bare_text, circular_refs
-from clio_tools.rules.whole import Faulty, read
-from clio_tools.mapping.tree import Argument, Line
+from clio_tools.rules.whole import Faulty
 
 
 class Cases(Trial):
@@ -33,11 +31,7 @@ class Cases(Trial):
                 continue
             with self.subTest(case.name, came_out=case.came_out):
                 self.put(case.files)
-                drawing = read((self.folder / "drawing.clio").read_bytes())
-                lines = [Line(one.start, one.end, one.literal, one.conversion,
-                              tuple(Argument(of.start, of.end, of.set, of.column) for of in one.arguments),
-                              one.target) for one in drawing.tree.lines if all(of.column for of in one.arguments)]
-                text = bare_text(drawing, lines, list(drawing.tree.target.sets), circular_refs(drawing))
+                text = lines_alone((self.folder / "drawing.clio").read_bytes())
                 self.file("mapping.clio", text)
                 self.assertNotEqual(differences(self.folder, case.wanted), [])
 

@@ -76,7 +76,7 @@ class Clashes:
             rules = listed(str(number) for number, rule in enumerate(self.mapping.rules)
                            if any(atom.table == clash.table and atom.cells[clash.column] == (LITERAL, text) for atom in rule.conclusion))
             yield (f"cause: {shown(text)} is a text of the mapping: its line fills {table}.{column} in each rule that no other line fills there, "
-                   f"so in rules {rules}: make the key hold apart what these rules make, or write rules in the place of this line")
+                   f"so in rules {rules}: make the key hold apart what these rules make, or say in a drawing for which rows it is, by `from` or `where` (man clio-rules)")
         twice = [line for number in dict.fromkeys(one.rule for one in origins) for line in self.twice(number)]
         yield from twice
         if len({one.rule for one in origins}) > 1 and not literals and not twice:

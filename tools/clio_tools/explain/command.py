@@ -21,10 +21,14 @@ characters:
 
 If nothing was refused it warns of what the manual calls traps: a rule of lines that has a set twice, a ref of the source that drops rows, with their
 number, and whether a line uses it; columns of the source that go nowhere, and columns of the target that nothing fills; records that are there twice,
-and matches that became one; rows of nothing but nulls; rows with nothing in their key; a set that has no key to group by; a quote that is never
-closed, or text behind one that is; a text that differs from another by a space; a line from a text that no rule has; a ref of the target to no key.
+and matches that became one; rows of nothing but nulls; rows with nothing in their key; rows of lines without the key that other rows of their set have;
+a set that has no key to group by; a quote that is never closed, or text behind one that is; a text that differs from another by a space; a line from a
+text that no rule has; a ref of the target to no key.
 Each warning ends with its name and its set: the comment `// clio-explain: off NAME SET` in the mapping switches it off, without SET all of this name.
 After `show` it speaks of the mapping alone.
+
+If lines say more than was meant, the notes of a drawing (man clio-rules) follow that would say it. Of the rules of a mapping that clio-rules printed, it
+says which statements of the drawing led to them.
 
 It reads the mapping and the files anew after clio has ended, and runs `clio show` for the rules, and `clio judge` for a verdict once more. For data at
 clio's limits that takes up to a minute.

@@ -6,7 +6,7 @@ import signal
 
 from clio_tools.mapping.tables import tables_of
 
-from clio_tools.explain import clashes, document_faults, drawing_notes, given_faults, mapping_faults, other_faults, query_faults, sizes, system_faults, table_faults, traps, verdicts
+from clio_tools.explain import clashes, document_faults, drawing_notes, drawn, given_faults, mapping_faults, other_faults, query_faults, sizes, system_faults, table_faults, traps, verdicts
 from clio_tools.explain.placed import MappingText
 from clio_tools.explain.said import visible
 from clio_tools.explain.source import file_of
@@ -65,8 +65,13 @@ def rows(message):
 
 
 def explained(status, message, words):
-    """The lines that explain how clio ended."""
+    """The lines that explain how clio ended; of the rules of a printed mapping they say what in its drawing led to them."""
     content = text_of("mapping.clio")
+    yield from drawn.with_drawing(ending(status, message, words, content), message, content)
+
+
+def ending(status, message, words, content):
+    """What is said of the way in which clio ended."""
     if status < 0:
         yield f"clio was ended by the signal {signal.Signals(-status).name}" + (
             ": the stack ran out" if -status == signal.SIGSEGV else ": memory may have run out" if -status == signal.SIGKILL else "")

@@ -8,6 +8,7 @@ from clio_tools.mapping.meaning import read_mapping
 from clio_tools.mapping.rules import EXISTENTIAL, LITERAL, VARIABLE, TooLarge, closed, printed as printed_rule
 
 from clio_tools.explain.joins import Matches, TooMany
+from clio_tools.explain.open_keys import is_unknown, open_keys
 from clio_tools.explain.program import mapping_of
 from clio_tools.explain.quotes import odd_fields
 from clio_tools.explain.said import amount, listed, shown, visible
@@ -65,6 +66,7 @@ class Traps:
         yield from self.ungrouped()
         yield from self.hidden_literals()
         yield from self.refs_to_no_key()
+        yield from self.open_keys()
 
     def sets_twice(self):
         """Rules of lines that have a set twice on one side; in a rule that is written by hand that is meant."""
@@ -135,6 +137,11 @@ class Traps:
                     own = listed(table.columns[column] for column in link.own)
                     yield Warned("no-key", table.name, [f"ref ({own}) -> {other.name} ({referred}) of {table.name} leads to columns that are no key of "
                                                         f"{other.name}: rows that refer to one value may get several rows there, each with nulls of its own"])
+
+    def open_keys(self):
+        """Rows without the key that other rules fill."""
+        for name, line in open_keys(self.mapping, self.printed, self.by_hand):
+            yield Warned("open-key", name, [line])
 
     def of_data(self, in_core_mode):
         """What happened to the rows of the source."""
@@ -288,11 +295,6 @@ def filled_cells(rule):
     cells = rule.conclusion_cells()
     return [(atom, column) for atom in rule.conclusion for column, cell in enumerate(atom.cells)
             if cell.kind != EXISTENTIAL or cells.count(cell) > 1]
-
-
-def is_unknown(atom):
-    """Whether a rule leaves each cell of a row open."""
-    return all(cell.kind == EXISTENTIAL for cell in atom.cells)
 
 
 def has_other_key(table, referred):

@@ -1,6 +1,6 @@
 """The mapping text that a drawing means: its own schemas, the sets that tests and lookups take, and rules."""
 import hashlib
-from typing import Iterator, Optional
+from typing import Iterator, NamedTuple, Optional, Sequence
 
 from ..mapping import tree
 from ..mapping.printing import printed_rule, quoted
@@ -14,6 +14,13 @@ from .spelling import Spelling, with_all_cells
 from .variants import refs_past_limit
 
 
+class Origin(NamedTuple):
+    """What led to a rule: the rule in words, and the statements of the drawing."""
+
+    words: str
+    statements: Sequence[tree.Item]
+
+
 class Printed:
     """The text, the files that it takes, and the rules with the words for each."""
 
@@ -22,7 +29,19 @@ class Printed:
         self.comments = Comments(drawing.tree)
         self.rules = [Spelling(drawing, self.sets, made).spelled() for made in drawing.made]
         self.left_out = circular_refs(drawing)
+        self.unnoted: list[tree.Rule] = []
         self.text = self._whole()
+
+    def origins(self) -> list[Origin]:
+        """Of each rule of the text, in its order, what led to it; none if the text is the drawing itself."""
+        if not self.left_out and self.text == self.drawing.tree.content.decode("utf-8"):
+            return []
+        lines = self.drawing.tree.lines
+        alone = [Origin(f"{name}: what lines alone say", [line for line in lines if line.target.set.text == name])
+                 for name in (rule.conclusion[0].name.text for rule in self.unnoted)]
+        noted = [Origin(said(self.drawing, made), [*([made.rows.note] if made.rows.note else []), *made.lines])
+                 for made in self.drawing.made]
+        return alone + noted + [Origin("a rule of the drawing", [rule]) for rule in self.drawing.tree.rules]
 
     def _whole(self) -> str:
         """The whole text, below the line that names the drawing."""
@@ -75,7 +94,7 @@ class Printed:
     # --- rules -------------------------------------------------------------------------------------------------------
 
     def _items(self) -> Iterator[str]:
-        unnoted = rules_without_notes(self.drawing)
+        self.unnoted = unnoted = rules_without_notes(self.drawing)
         if unnoted:
             yield "// What lines alone say of sets without `rows`."
             yield from self._comments_of_unnoted()

@@ -41,7 +41,19 @@ class Proposing:
         keys = {word.text for key in table.text.keys for word in key.columns}
         ends = [name for name in tops if any(line.target.column.text in keys and one.set.text in reached[name]
                                              for line in lines for one in line.arguments)]
-        return ends or tops
+        return self._inside(table, ends or tops)
+
+    def _inside(self, table: Table, starts: list[str]) -> list[str]:
+        """The sets from which the rows of an inner set could come: those that know the outer row, too."""
+        if table.parent is None:
+            return starts
+        outer = self._starts(self.drawing.targets[table.parent])
+        if any(name in outer or any(self.walks(name, one) for one in outer) for name in starts):
+            return starts
+        knowing = [one.name for one in self.drawing.source.tables
+                   if all(self.walks(one.name, name) for name in starts)
+                   and any(self.walks(one.name, name) for name in outer)]
+        return [name for name in knowing if not any(self.walks(name, one) for one in knowing if one != name)] or starts
 
     def rows(self, table: Table) -> Iterator[str]:
         """The proposed `rows` of a set."""
