@@ -1,13 +1,16 @@
 """All clashes of a mapping and its source, each with the source rows behind its texts."""
 import re
+from collections.abc import Iterator
 
 from clio_tools.explain.causes import shown_ref
 from clio_tools.explain.joins import Matches, TooMany
-from clio_tools.explain.key_chase import Canonical, KeyChase
+from clio_tools.explain.key_chase import Canonical, Clash, KeyChase, KeyStep, Origin, Value
 from clio_tools.explain.program import mapping_of
 from clio_tools.explain.said import amount, listed, shown, visible
 from clio_tools.explain.source import Source
+from clio_tools.mapping.meaning import Mapping
 from clio_tools.mapping.rules import LITERAL
+from clio_tools.mapping.tables import Columns, Table
 
 IN_FULL = 50  # clashes that are told with their rows
 IN_ALL = 1000  # clashes that are told at all
@@ -19,7 +22,7 @@ FORM = re.compile(rf"clash: table (\w+), key \(([#\w, ]+)\): {STRING} and {STRIN
 class Clashes:
     """The clashes, and what is needed to tell them."""
 
-    def __init__(self, mapping, printed):
+    def __init__(self, mapping: Mapping, printed: list[str]) -> None:
         self.mapping, self.printed = mapping, printed
         self.source = Source(mapping)
         matches = [Matches(rule, self.source) for rule in mapping.rules]
@@ -28,29 +31,33 @@ class Clashes:
         self.chase = KeyChase(self.canonical.rows, mapping.target)
         self.clashes = self.chase.clashes()
 
-    def ordered(self, message):
+    def ordered(self, message: str) -> list[Clash]:
         """The clashes, first those that the message tells."""
         told = FORM.fullmatch(message)
         if not told:
             return self.clashes
         names = (told[1], told[2].split(", "), told[5])
         texts = {plain(told[3]), plain(told[4])}
-        is_told = lambda clash: self.names(clash) == names and texts <= set(clash.texts)
+
+        def is_told(clash: Clash) -> bool:
+            return self.names(clash) == names and texts <= set(clash.texts)
+
         return sorted(self.clashes, key=lambda clash: not is_told(clash))
 
-    def names(self, clash):
+    def names(self, clash: Clash) -> tuple[str, list[str], str]:
         """The names of a clash's table, of its key's columns and of its column."""
         table = self.mapping.target[clash.table]
         return table.name, [table.columns[column] for column in self.left(clash)], table.columns[clash.column]
 
-    def left(self, step):
+    def left(self, step: Clash | KeyStep) -> Columns:
         """The columns of the key, or the left ones of the dependency, of a clash or a step."""
         return self.chase.determinations[step.table][step.key][0]
 
-    def lines(self, message):
+    def lines(self, message: str) -> Iterator[str]:
         """All clashes in words."""
         ordered = self.ordered(message)
-        yield f"{amount(len(ordered), 'clash', 'clashes')} in all: rows that agree on a key{self.or_dependency()} and have different texts in a column"
+        yield (f"{amount(len(ordered), 'clash', 'clashes')} in all: rows that agree on a key{self.or_dependency()} and"
+               " have different texts in a column")
         if ordered:
             yield from self.causes(ordered[0])
         for number, clash in enumerate(ordered[:IN_ALL]):
@@ -66,41 +73,48 @@ class Clashes:
         if len(ordered) > IN_ALL:
             yield f"and {len(ordered) - IN_ALL:,} more"
 
-    def causes(self, clash):
-        """What of the mapping makes the texts of the first clash meet: a text of its own, or a set that a rule has twice."""
+    def causes(self, clash: Clash) -> Iterator[str]:
+        """What of the mapping makes the texts of a clash meet: a text of its own, or a set that a rule has twice."""
         origins = [self.canonical.origins[clash.table][rows[0]][0] for rows in clash.texts.values()]
         cells = [self.mapping.rules[one.rule].conclusion[one.atom].cells[clash.column] for one in origins]
         table, _, column = self.names(clash)
-        literals = dict.fromkeys(cell.content for cell in cells if cell.kind == LITERAL)
+        literals = dict.fromkeys(str(cell.content) for cell in cells if cell.kind == LITERAL)
         for text in literals:
             rules = listed(str(number) for number, rule in enumerate(self.mapping.rules)
-                           if any(atom.table == clash.table and atom.cells[clash.column] == (LITERAL, text) for atom in rule.conclusion))
-            yield (f"cause: {shown(text)} is a text of the mapping: its line fills {table}.{column} in each rule that no other line fills there, "
-                   f"so in rules {rules}: make the key hold apart what these rules make, or say in a drawing for which rows it is, by `from` or `where` (man clio-rules)")
+                           if any(atom.table == clash.table and atom.cells[clash.column] == (LITERAL, text)
+                                  for atom in rule.conclusion))
+            yield (f"cause: {shown(text)} is a text of the mapping: its line fills {table}.{column} in each rule that"
+                   f" no other line fills there, so in rules {rules}: make the key hold apart what these rules make,"
+                   " or say in a drawing for which rows it is, by `from` or `where` (man clio-rules)")
         twice = [line for number in dict.fromkeys(one.rule for one in origins) for line in self.twice(number)]
         yield from twice
         if len({one.rule for one in origins}) > 1 and not literals and not twice:
             rules = listed(dict.fromkeys(str(one.rule) for one in origins))
             yield f"cause: rules {rules} both fill {table}.{column}, from sources that do not agree"
 
-    def twice(self, number):
+    def twice(self, number: int) -> Iterator[str]:
         """A set that a rule has twice on its left, or on its right, with the refs that lead there."""
         rule = self.mapping.rules[number]
-        for side, tables, atoms in ("left", self.mapping.source, rule.premise), ("right", self.mapping.target, rule.conclusion):
-            numbers = [atom.table for atom in atoms]
+        sides: list[tuple[str, list[Table], list[int]]] = [
+            ("left", self.mapping.source, [atom.table for atom in rule.premise]),
+            ("right", self.mapping.target, [atom.table for atom in rule.conclusion])]
+        for side, tables, numbers in sides:
             for double in [one for one in dict.fromkeys(numbers) if numbers.count(one) > 1]:
-                refs = [shown_ref(tables, one, link) for one in dict.fromkeys(numbers) for link in tables[one].every_link() if link.table == double]
-                yield (f"cause: rule {number} has {tables[double].name} {amount(numbers.count(double), 'time')} on its {side}, by "
-                       f"{' and '.join(refs) or 'its text'}: values of different rows there meet in one row: leave out a ref, or write rules")
+                refs = [shown_ref(tables, one, link) for one in dict.fromkeys(numbers)
+                        for link in tables[one].every_link() if link.table == double]
+                yield (f"cause: rule {number} has {tables[double].name} {amount(numbers.count(double), 'time')} on its"
+                       f" {side}, by {' and '.join(refs) or 'its text'}: values of different rows there meet in one"
+                       " row: leave out a ref, or write rules")
 
-    def or_dependency(self):
+    def or_dependency(self) -> str:
         """What else rows may agree on."""
-        return ", or on the left of a dependency," if any(table.tree.dependencies for table in self.mapping.target) else ""
+        is_there = any(table.tree.dependencies for table in self.mapping.target)
+        return ", or on the left of a dependency," if is_there else ""
 
-    def shown_value(self, value):
+    def shown_value(self, value: Value) -> str:
         return "?%d.%d.%d" % value if isinstance(value, tuple) else shown(value)
 
-    def of_text(self, clash, text):
+    def of_text(self, clash: Clash, text: str) -> Iterator[str]:
         """The rows that have a text, with the source rows that they are from."""
         rows = clash.texts[text]
         for row in rows[:ROWS]:
@@ -113,28 +127,29 @@ class Clashes:
         if len(rows) > ROWS:
             yield f"   {shown(text)} in {len(rows) - ROWS} more"
 
-    def sources(self, origin):
+    def sources(self, origin: Origin) -> Iterator[str]:
         """The source rows of the first match that gives a tuple."""
         chosen = self.matches[origin.rule].found[origin.tuple][0]
         rule = self.mapping.rules[origin.rule]
         for table, row in dict.fromkeys((atom.table, row) for atom, row in zip(rule.premise, chosen)):
             yield self.source.shown_row(table, row)
 
-    def of_nulls(self, clash):
+    def of_nulls(self, clash: Clash) -> Iterator[str]:
         """How the nulls in the key of a clash's rows became what they are."""
-        told = set()
+        told: set[Value] = set()
         for row in [rows[0] for rows in clash.texts.values()][:4]:
             for column in (*self.left(clash), clash.column):
                 yield from self.of_value(self.canonical.rows[clash.table][row][column], told)
 
-    def of_value(self, value, told):
+    def of_value(self, value: Value, told: set[Value]) -> Iterator[str]:
         """The key steps that replaced a null, one after the other."""
         while value in self.chase.steps and value not in told and len(told) < 12:
             told.add(value)
             step = self.chase.steps[value]
             table = self.mapping.target[step.table]
             key = ", ".join(table.columns[column] for column in self.left(step))
-            yield f"   {self.shown_value(value)} is {self.shown_value(step.value)}, since two rows of {table.name} agree on ({key}):"
+            yield (f"   {self.shown_value(value)} is {self.shown_value(step.value)}, since two rows of {table.name}"
+                   f" agree on ({key}):")
             for row in step.rows:
                 for place, line in enumerate(self.sources(self.canonical.origins[step.table][row][0])):
                     yield f"      {'from' if not place else ' and'} {line}"
@@ -144,12 +159,13 @@ class Clashes:
             value = step.value
 
 
-def plain(literal):
+def plain(literal: str) -> str:
     """The text of a string of a message, in which `\\u{..}` is a character that was not printed."""
-    return re.sub(r"\\(?:u\{([0-9a-f]+)\}|(.))", lambda found: found[2] or chr(int(found[1], 16)), literal[1:-1], flags=re.DOTALL)
+    return re.sub(r"\\(?:u\{([0-9a-f]+)\}|(.))", lambda found: found[2] or chr(int(found[1], 16)), literal[1:-1],
+                  flags=re.DOTALL)
 
 
-def explain(message, content):
+def explain(message: str, content: bytes) -> Iterator[str]:
     """The lines that explain a clash."""
     mapping, printed = mapping_of(content)
     if mapping is None:

@@ -3,39 +3,46 @@
     clio-explain [WORD..]
     clio-explain version
 
-It runs `clio` with these words in the current folder: the one on the path, or else the one of the repository. What clio prints and its
-status are passed on unchanged, its message with control characters as \\u{..}. Below the message it says more on standard error, each text in quotes, cut if it is long, and without control
-characters:
+It runs `clio` with these words in the current folder: the one on the path, or else the one of the repository. What clio
+prints and its status are passed on unchanged, its message with control characters as \\u{..}. Below the message it says
+more on standard error, each text in quotes, cut if it is long, and without control characters:
 
     mapping: ..          line, column, carets under the word, what can be there, and the names that exist there
-    rows: ..             the expected and the found header; the record with its fields and its line; the place in a document; the field that is no value
-    clash: ..            all clashes, each with the source rows behind its texts, and how keys made the nulls in its key equal;
-                         what of the mapping makes the first one
+    rows: ..             the expected and the found header; the record with its fields and its line; the place in a
+                         document; the field that is no value
+    clash: ..            all clashes, each with the source rows behind its texts, and how keys made the nulls in its key
+                         equal; what of the mapping makes the first one
     limit: ..            which sets, lines, refs or rules pass it, how large it is, and what to do, in at most 40 lines
     read fault: ..       the reason of the system
     write fault: ..      which file, and the reason of the system
     out of memory        how much there is
-    query: ..            line, column, carets under the word, what can be there, and the sets and variables that exist there
-    other: ..            the same of the second mapping; in what two schemas differ; the conditions, or the rule, that keep mappings from being compared
-    verdict not a ..     the source rows of the match and the given row that comes nearest, or the rows that break a key or a link
+    query: ..            line, column, carets under the word, what can be there, and the sets and variables that exist
+                         there
+    other: ..            the same of the second mapping; in what two schemas differ; the conditions, or the rule, that
+                         keep mappings from being compared
+    verdict not a ..     the source rows of the match and the given row that comes nearest, or the rows that break a key
+                         or a link
 
-If nothing was refused it warns of what the manual calls traps: a rule of lines that has a set twice, a ref of the source that drops rows, with their
-number, and whether a line uses it; columns of the source that go nowhere, and columns of the target that nothing fills; records that are there twice,
-and matches that became one; rows of nothing but nulls; rows with nothing in their key; rows of lines without the key that other rows of their set have;
-a set that has no key to group by; a quote that is never closed, or text behind one that is; a text that differs from another by a space; a line from a
-text that no rule has; a ref of the target to no key.
-Each warning ends with its name and its set: the comment `// clio-explain: off NAME SET` in the mapping switches it off, without SET all of this name.
-After `show` it speaks of the mapping alone.
+If nothing was refused it warns of what the manual calls traps: a rule of lines that has a set twice, a ref of the
+source that drops rows, with their number, and whether a line uses it; columns of the source that go nowhere, and
+columns of the target that nothing fills; records that are there twice, and matches that became one; rows of nothing but
+nulls; rows with nothing in their key; rows of lines without the key that other rows of their set have; a set that has
+no key to group by; a quote that is never closed, or text behind one that is; a text that differs from another by a
+space; a line from a text that no rule has; a ref of the target to no key. Each warning ends with its name and its set:
+the comment `// clio-explain: off NAME SET` in the mapping switches it off, without SET all of this name. After `show`
+it speaks of the mapping alone.
 
-If lines say more than was meant, the notes of a drawing (man clio-rules) follow that would say it. Of the rules of a mapping that clio-rules printed, it
-says which statements of the drawing led to them.
+If lines say more than was meant, the notes of a drawing (man clio-rules) follow that would say it. Of the rules of a
+mapping that clio-rules printed, it says which statements of the drawing led to them.
 
-It reads the mapping and the files anew after clio has ended, and runs `clio show` for the rules, and `clio judge` for a verdict once more. For data at
-clio's limits that takes up to a minute.
-`clio-explain version` prints the version, and which program `clio` is: its SHA-256, the sum of its sources, its toolchain.
+It reads the mapping and the files anew after clio has ended, and runs `clio show` for the rules, and `clio judge` for a
+verdict once more. For data at clio's limits that takes up to a minute.
 
-A message that it can't explain, as that of a mapping in a later version of the text, is passed on alone. At most 1,000 clashes are listed, the first
-50 with their rows; if rules have more than 20,000,000 matches, none.
+`clio-explain version` prints the version, and which program `clio` is: its SHA-256, the sum of its sources, its
+toolchain.
+
+A message that it can't explain, as that of a mapping in a later version of the text, is passed on alone. At most 1,000
+clashes are listed, the first 50 with their rows; if rules have more than 20,000,000 matches, none.
 
 EXIT STATUS
 That of clio; 128 and the number of a signal if one ended it; 1 if there is no clio.
@@ -43,6 +50,7 @@ That of clio; 128 and the number of a signal if one ended it; 1 if there is no c
 import os
 import subprocess
 import sys
+from collections.abc import Iterable
 
 from clio_tools.explain.endings import explained
 from clio_tools.explain.program import program
@@ -51,7 +59,7 @@ from clio_tools.program import run
 from clio_tools.version import version_lines
 
 
-def say(lines, before):
+def say(lines: Iterable[str], before: str) -> None:
     """Prints lines on standard error as they come; a failure to explain is no failure of the run."""
     try:
         for line in lines:
@@ -59,10 +67,12 @@ def say(lines, before):
     except MemoryError:
         os.write(2, b"clio-explain: memory ran out\n")
     except Exception as error:  # pylint: disable=broad-except
-        os.write(2, f"clio-explain: no more can be said of it ({type(error).__name__}: {str(error)[:200]})\n".encode("utf-8", "backslashreplace"))
+        said = f"clio-explain: no more can be said of it ({type(error).__name__}: {str(error)[:200]})\n"
+        os.write(2, said.encode("utf-8", "backslashreplace"))
 
 
-def main():
+def main() -> None:
+    """Runs clio, then explains."""
     words = sys.argv[1:]
     if words == ["version"]:
         run("clio-explain", lambda _: print("\n".join(version_lines())))

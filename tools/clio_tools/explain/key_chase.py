@@ -1,44 +1,56 @@
 """The key chase: what keys and dependencies make equal, and all that they can't make equal.
 
-A constant is a text, a null is a tuple of rule, variable and place. Two texts are never made one, so the chase goes on after a clash.
+A constant is a text, a null is a tuple of rule, variable and place. Two texts are never made one, so the chase goes on
+after a clash.
 """
 from collections import deque
+from collections.abc import Iterator
 from typing import NamedTuple
 
-from clio_tools.mapping.rules import EXISTENTIAL, VARIABLE
+from clio_tools.explain.joins import Matches
+from clio_tools.explain.source import Row
+from clio_tools.mapping.rules import EXISTENTIAL, Cell, Rule
+from clio_tools.mapping.tables import Table
+
+Null = tuple[int, int, int]
+Value = str | Null
+Cells = tuple[Value, ...]
+Pair = tuple[int, int]
 
 
 class Origin(NamedTuple):
     """Where a row is from: a rule, one of its tuples, and an atom of its conclusion."""
     rule: int
-    tuple: tuple
+    tuple: Row
     atom: int
 
 
 class KeyStep(NamedTuple):
     """A null was replaced by a value, since two rows of a table agree on a key, or on the left of a dependency."""
-    value: object
+    value: Value
     table: int
     key: int
-    rows: tuple
+    rows: Pair
 
 
 class Clash(NamedTuple):
-    """Rows of a table that agree on a key, or on the left of a dependency, and have different texts in a column: for each text the numbers of its rows."""
+    """Rows of a table that agree on a key, or on the left of a dependency, and have different texts in a column: for
+    each text the numbers of its rows.
+    """
     table: int
     key: int
-    agreed: tuple
+    agreed: Cells
     column: int
-    texts: dict
+    texts: dict[str, list[int]]
 
 
 class Canonical:
-    """The rows that the rules ask for, before keys: for each table its different rows, and the first origins of each."""
+    """The rows that the rules ask for, before keys: each table's different rows, and the first origins of each."""
 
-    def __init__(self, rules, matches, tables, kept=3):
-        self.rows = [[] for _ in tables]
-        self.origins = [[] for _ in tables]
-        numbers = [{} for _ in tables]
+    def __init__(self, rules: list[Rule], matches: list[Matches], tables: list[Table], kept: int = 3) -> None:
+        self.rows: list[list[Cells]] = [[] for _ in tables]
+        self.origins: list[list[list[Origin]]] = [[] for _ in tables]
+        numbers: list[dict[Cells, int]] = [{} for _ in tables]
         for number, rule in enumerate(rules):
             for place, texts in enumerate(matches[number].places()):
                 values = dict(zip(matches[number].exported, texts))
@@ -52,24 +64,29 @@ class Canonical:
                         self.origins[atom.table][here].append(Origin(number, texts, position))
 
 
-def cell_value(cell, values, rule, place):
+def cell_value(cell: Cell, values: dict[int, str], rule: int, place: int) -> Value:
     """The value of a cell of a conclusion at a place of its rule."""
-    if cell.kind == VARIABLE:
-        return values[cell.content]
-    return (rule, cell.content, place) if cell.kind == EXISTENTIAL else cell.content
+    if isinstance(cell.content, str):
+        return cell.content
+    return (rule, cell.content, place) if cell.kind == EXISTENTIAL else values[cell.content]
 
 
 class KeyChase:
-    """Makes rows that agree on a key equal, and those that agree on the left of a dependency equal on its right, until nothing changes.
+    """Makes rows that agree on a key equal, and those that agree on the left of a dependency equal on its right, until
+    nothing changes.
 
     A table's keys come first, then its dependencies, and have their numbers in this order.
     """
 
-    def __init__(self, rows, tables):
+    def __init__(self, rows: list[list[Cells]], tables: list[Table]) -> None:
         self.rows = rows
         self.determinations = [table.determinations() for table in tables]
-        self.replaced, self.steps, self.met = {}, {}, {}
-        self.holders, self.indexes, self.work = {}, {}, deque()
+        self.replaced: dict[Value, Value] = {}
+        self.steps: dict[Value, KeyStep] = {}
+        self.met: dict[tuple[int, int], list[Pair]] = {}
+        self.holders: dict[Value, int | list[int]] = {}
+        self.indexes: dict[tuple[int, int], dict[Value | Cells, int]] = {}
+        self.work: deque[tuple[int, int]] = deque()
         for table, determinations in enumerate(self.determinations):
             for column in sorted({column for left, _ in determinations for column in left}):
                 self.hold_column(table, column)
@@ -78,15 +95,16 @@ class KeyChase:
                 self.look(table, row)
         while self.work:
             self.look(*self.work.popleft())
-        self.holders = self.indexes = None
+        self.holders.clear()
+        self.indexes.clear()
 
-    def hold_column(self, table, column):
-        """Takes down where the nulls of a column are by which rows agree: only such a row can come to agree with another."""
+    def hold_column(self, table: int, column: int) -> None:
+        """Takes down where the nulls of a column are: only a row with one can come to agree with another."""
         for row, cells in enumerate(self.rows[table]):
             if isinstance(cells[column], tuple):
                 self.hold(cells[column], [row * len(self.rows) + table])
 
-    def hold(self, value, rows):
+    def hold(self, value: Value, rows: list[int]) -> None:
         """Adds rows to those of a null; a row alone is held without a list."""
         held = self.holders.get(value)
         if isinstance(held, list):
@@ -96,7 +114,7 @@ class KeyChase:
         elif rows:
             self.holders[value] = rows if len(rows) > 1 else rows[0]
 
-    def value(self, value):
+    def value(self, value: Value) -> Value:
         """The value that stands now in the place of a value."""
         last = value
         while last in self.replaced:
@@ -105,11 +123,11 @@ class KeyChase:
             self.replaced[value], value = last, self.replaced[value]
         return last
 
-    def agreed(self, table, key, row):
+    def agreed(self, table: int, key: int, row: int) -> Cells:
         """The values of a row in the columns of a key, as they are now."""
         return tuple([self.value(self.rows[table][row][column]) for column in self.determinations[table][key][0]])
 
-    def look(self, table, row):
+    def look(self, table: int, row: int) -> None:
         """Compares a row with the first row that agrees with it on a key."""
         for key, (_, right) in enumerate(self.determinations[table]):
             index, agreed = self.indexes.setdefault((table, key), {}), self.agreed(table, key, row)
@@ -118,7 +136,7 @@ class KeyChase:
                 for column in right:
                     self.make_equal(table, key, (other, row), column)
 
-    def make_equal(self, table, key, pair, column):
+    def make_equal(self, table: int, key: int, pair: Pair, column: int) -> None:
         """Makes the values of two rows in a column equal, if one of them is a null."""
         one, two = [self.value(self.rows[table][row][column]) for row in pair]
         if one == two:
@@ -135,15 +153,15 @@ class KeyChase:
         if isinstance(least, tuple):
             self.hold(least, moved)
 
-    def note(self, value, step):
+    def note(self, value: Value, step: KeyStep) -> None:
         """Takes down why a null was replaced."""
         self.steps[value] = step
 
-    def clashes(self):
+    def clashes(self) -> list[Clash]:
         """All clashes that are left at the end, ordered by table, key, the values of the key and the column."""
-        found = []
+        found: list[Clash] = []
         for (table, key), pairs in sorted(self.met.items()):
-            groups = {self.agreed(table, key, pair[1]): [] for pair in pairs}
+            groups: dict[Cells, list[int]] = {self.agreed(table, key, pair[1]): [] for pair in pairs}
             for row in range(len(self.rows[table])):
                 agreed = self.agreed(table, key, row)
                 if agreed in groups:
@@ -152,10 +170,10 @@ class KeyChase:
                 found += self.of_group(table, key, agreed, rows)
         return found
 
-    def of_group(self, table, key, agreed, rows):
+    def of_group(self, table: int, key: int, agreed: Cells, rows: list[int]) -> Iterator[Clash]:
         """The clashes among rows that agree on a key."""
         for column in self.determinations[table][key][1]:
-            texts = {}
+            texts: dict[str, list[int]] = {}
             for row in rows:
                 value = self.value(self.rows[table][row][column])
                 if not isinstance(value, tuple):
@@ -164,6 +182,6 @@ class KeyChase:
                 yield Clash(table, key, agreed, column, dict(sorted(texts.items())))
 
 
-def order(value):
+def order(value: Value) -> tuple[int, Value]:
     """Texts come before nulls."""
-    return (1, value) if isinstance(value, tuple) else (0, value)
+    return int(isinstance(value, tuple)), value

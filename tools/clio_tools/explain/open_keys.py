@@ -20,9 +20,9 @@ def open_keys(mapping: Mapping, printed: list[str], by_hand: set[str]) -> Iterat
             filling = [place for place, atom in made if not is_open(atom, key)]
             if filling and opened:
                 sources = dict.fromkeys(mapping.source[atom.table].name for atom in mapping.rules[opened[0]].premise)
-                yield table.name, (f"rule {opened[0]} makes rows of {table.name} from {listed(sources)} without the key "
-                                   f"({listed(table.columns[column] for column in key)}), which rule {filling[0]} "
-                                   f"fills: is it meant? {visible(printed[opened[0]])[:300]}")
+                yield table.name, (f"rule {opened[0]} makes rows of {table.name} from {listed(sources)} without the key"
+                                   f" ({listed(table.columns[column] for column in key)}), which rule {filling[0]}"
+                                   f" fills: is it meant? {visible(printed[opened[0]])[:300]}")
 
 
 def is_open(atom: Conclusion, columns: Sequence[int]) -> bool:

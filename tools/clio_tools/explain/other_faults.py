@@ -1,20 +1,25 @@
-"""What a refusal of the second mapping of a comparison leaves out, and in what two mappings differ that can't be compared."""
+"""What a refusal of the second mapping of a comparison leaves out, and why two mappings can't be compared."""
+import itertools
 import os
 import pathlib
 import re
 import subprocess
 import tempfile
+from collections.abc import Iterator
 
 from clio_tools.explain import mapping_faults
 from clio_tools.explain.placed import MappingText
 from clio_tools.explain.program import program
 from clio_tools.explain.said import visible, with_caret
+from clio_tools.mapping.tables import SetTree
+
+Placed = tuple[SetTree | None, list[str]]  # a set with its clauses
 
 NAMES = ("mapping.clio", "other.clio")
 
 
-def explain(message, content, first):
-    """The lines that explain a message `other: ..`; `content` has the bytes of other.clio, `first` those of mapping.clio."""
+def explain(message: str, content: bytes | None, first: bytes) -> Iterator[str]:
+    """The lines that explain a message `other: ..` on these bytes of other.clio; `first` are those of mapping.clio."""
     if message == "other: other.clio is absent":
         yield from absent()
         return
@@ -31,7 +36,7 @@ def explain(message, content, first):
         yield from mapping_faults.explain("mapping" + message.removeprefix("other"), content)
 
 
-def absent():
+def absent() -> Iterator[str]:
     """There is no other.clio."""
     yield f"clio compare reads mapping.clio and other.clio in the folder where it is started: {visible(os.getcwd())}"
     if os.path.islink("other.clio"):
@@ -43,39 +48,46 @@ def absent():
         yield "it is another mapping of the same two schemas: cp mapping.clio other.clio, and change its lines"
 
 
-def clauses(tree, parent):
+def clauses(tree: SetTree, parent: str) -> list[str]:
     """What is declared of a set, clause by clause."""
     words = ", ".join
-    return [f"set {tree.name}" + (f" inside {parent}" if parent else ""), f"columns {words(tree.columns)}", *[f"key ({words(key)})" for key in tree.keys],
+    return [f"set {tree.name}" + (f" inside {parent}" if parent else ""),
+            f"columns {words(tree.columns)}",
+            *[f"key ({words(key)})" for key in tree.keys],
             *[f"dep ({words(left)}) -> ({words(right)})" for left, right in tree.dependencies],
-            *[f"ref ({words(one.own)}) -> {one.name} ({words(one.referred)})" + " optional" * one.optional for one in tree.references]]
+            *[f"ref ({words(one.own)}) -> {one.name} ({words(one.referred)})" + " optional" * one.optional
+              for one in tree.references]]
 
 
-def placed_sets(trees, parent=""):
+def placed_sets(trees: list[SetTree], parent: str = "") -> Iterator[Placed]:
     """All sets, each before its inner sets, with its clauses."""
     for tree in trees:
         yield tree, clauses(tree, parent)
         yield from placed_sets(tree.inner, tree.name)
 
 
-def schemas(one, other):
+def schemas(one: MappingText, other: MappingText) -> Iterator[str]:
     """The first set in which two schemas differ, and its first clause that does."""
+    no_set: Placed = None, ["no set"]
     for side in "source", "target":
-        sets = [list(placed_sets(getattr(text, side))) for text in (one, other)]
-        for place in range(max(map(len, sets))):
-            here = [listed[place] if place < len(listed) else (None, ["no set"]) for listed in sets]
-            if here[0][1] == here[1][1]:
+        pairs = itertools.zip_longest(placed_sets(getattr(one, side)), placed_sets(getattr(other, side)),
+                                      fillvalue=no_set)
+        for place, here in enumerate(pairs, 1):
+            clause_pairs = list(itertools.zip_longest(here[0][1], here[1][1]))
+            first = next((number for number, pair in enumerate(clause_pairs) if pair[0] != pair[1]), None)
+            if first is None:
                 continue
-            yield f"both mappings must declare the same sets, in the same order; the first that differs is number {place + 1} of the {side}"
-            first = next((number for number, pair in enumerate(zip(here[0][1], here[1][1])) if pair[0] != pair[1]), min(len(here[0][1]), len(here[1][1])))
+            yield ("both mappings must declare the same sets, in the same order; the first that differs is number"
+                   f" {place} of the {side}")
             for name, text, (tree, listed) in zip(NAMES, (one, other), here):
-                yield f"{name} has {visible(listed[first]) if first < len(listed) else 'no more'}" + (f" in set {tree.name}" if tree and first else "")
+                yield (f"{name} has {visible(listed[first]) if first < len(listed) else 'no more'}"
+                       + (f" in set {tree.name}" if tree and first else ""))
                 if tree is not None:
                     yield from with_caret(text.content, tree.name.start, len(tree.name))
             return
 
 
-def conditions(*texts):
+def conditions(*texts: MappingText) -> Iterator[str]:
     """The conditions of both mappings."""
     yield "mappings with conditions on rows are not compared; these are there:"
     for name, text in zip(NAMES, texts):
@@ -84,12 +96,16 @@ def conditions(*texts):
             yield from with_caret(text.content, one.place.set.start, len(one.place.set.text))
 
 
-def conversion(number, name, content):
+def conversion(number: int, name: str, content: bytes) -> Iterator[str]:
     """The rule that has a conversion, as `clio show` prints it."""
     with tempfile.TemporaryDirectory() as folder:
         pathlib.Path(folder, "mapping.clio").write_bytes(content)
-        shown = subprocess.run([program(), "show"], cwd=folder, stdin=subprocess.DEVNULL, capture_output=True, check=False)
+        shown = subprocess.run([program(), "show"], cwd=folder, stdin=subprocess.DEVNULL, capture_output=True,
+                               check=False)
     rules = [line for line in shown.stdout.decode().splitlines() if line.startswith("rule ")]
-    yield "mappings with conversions are not compared" + (f"; rules count from 0, as clio show prints them, and this is rule {number} of {name}:" if number < len(rules) else "")
-    if number < len(rules):
-        yield f"    {visible(rules[number][:300])}"
+    said = "mappings with conversions are not compared"
+    if number >= len(rules):
+        yield said
+        return
+    yield f"{said}; rules count from 0, as clio show prints them, and this is rule {number} of {name}:"
+    yield f"    {visible(rules[number][:300])}"

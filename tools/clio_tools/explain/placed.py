@@ -49,7 +49,7 @@ def token_length(content: bytes, start: int) -> int:
 
 
 def open_marks(content: bytes) -> tuple[list[int], int | None]:
-    """The marks `{` and `(` of a text that are never closed, by their bytes; and where a string begins that isn't closed."""
+    """The bytes of the marks `{` and `(` that are never closed, and the byte of a string that isn't closed."""
     opened: list[int] = []
     for token in lexed(content).tokens:
         if token.kind == "string" and token.fault:

@@ -25,7 +25,7 @@ def printed_rules() -> list[bytes] | None:
 
 
 def mapping_of(content: bytes) -> tuple[Mapping | None, list[str]]:
-    """The mapping of a text, with the rules that clio prints in the place of its lines; and these rules as lines of text."""
+    """The mapping of a text, with the rules that clio prints in place of its lines; and these rules as texts."""
     printed = printed_rules()
     if printed is None:
         return None, []

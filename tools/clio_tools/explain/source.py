@@ -1,4 +1,6 @@
 """The source files as rows that know where they are from."""
+from __future__ import annotations
+
 import json
 import pathlib
 from array import array
@@ -6,7 +8,11 @@ from typing import Any
 
 from clio_tools.csv import MARK, records, text
 from clio_tools.explain.said import shown, visible
+from clio_tools.mapping.meaning import Mapping
 from clio_tools.mapping.tables import Table
+
+Row = tuple[str, ...]
+Place = str | tuple[int, int]  # the path of an object, or the number and the line of a record
 
 
 class Walk:
@@ -26,7 +32,8 @@ class Walk:
         """One object, then those inside it."""
         table = self.tables[number]
         before = ([identity] if table.inner else []) + ([up] if up is not None else [])
-        self.facts.append((number, tuple(before + [member_text(value.get(column)) for column in table.tree.columns]), path))
+        texts = [member_text(value.get(column)) for column in table.tree.columns]
+        self.facts.append((number, tuple(before + texts), path))
         for inner, tree in zip(table.inner, table.tree.inner):
             if value.get(tree.name) is not None:
                 self.objects(inner, value[tree.name], f"{path}/{tree.name}", identity, identity)
@@ -44,32 +51,36 @@ def member_text(value: object) -> str:
 class Rows:
     """The different rows of a table in the order of the file, the place of each, and how many records repeat one."""
 
-    def __init__(self, is_document):
-        self.rows, self.seen, self.repeats, self.records = [], set(), 0, 0
-        self.paths, self.entries, self.lines = [] if is_document else None, array("l"), array("l")
+    def __init__(self, is_document: bool) -> None:
+        self.rows: list[Row] = []
+        self.seen: set[Row] = set()
+        self.repeats = self.records = 0
+        self.is_document = is_document
+        self.paths: list[str] = []
+        self.entries, self.lines = array("l"), array("l")
 
-    def add(self, row, place):
+    def add(self, row: Row, place: Place) -> None:
         self.records += 1
         if row in self.seen:
             self.repeats += 1
             return
         self.seen.add(row)
         self.rows.append(row)
-        if self.paths is not None:
+        if isinstance(place, str):
             self.paths.append(place)
         else:
             self.entries.append(place[0])
             self.lines.append(place[1])
 
-    def place(self, row):
+    def place(self, row: int) -> Place:
         """The path of the object that a row is, or the number and the line of its record."""
-        return (self.entries[row], self.lines[row]) if self.paths is None else self.paths[row]
+        return self.paths[row] if self.is_document else (self.entries[row], self.lines[row])
 
 
 class Source:
-    """The rows of each table of a mapping's source that pass its conditions, read from the files of the current folder."""
+    """The rows of each table of a mapping's source that pass its conditions, from the files of the current folder."""
 
-    def __init__(self, mapping):
+    def __init__(self, mapping: Mapping) -> None:
         self.tables, self.mapping = mapping.source, mapping
         self.rows = [Rows(table.parent is not None or bool(table.inner)) for table in self.tables]
         self.failing = [0] * len(self.tables)  # how many records of each table don't pass
@@ -77,9 +88,9 @@ class Source:
             if table.parent is None:
                 self.read(number, table)
         for rows in self.rows:
-            rows.seen = None
+            rows.seen.clear()
 
-    def read(self, number, table):
+    def read(self, number: int, table: Table) -> None:
         """Reads the file of a root."""
         content = pathlib.Path(file_of(table)).read_bytes()
         if table.inner:
@@ -93,28 +104,33 @@ class Source:
         for place, (line, fields) in enumerate(entries, 1):
             self.add(number, tuple([text(field) for field in fields]), (place, line))
 
-    def add(self, number, row, place):
+    def add(self, number: int, row: Row, place: Place) -> None:
         """A row of a table, if it passes."""
         if self.mapping.passes(number, row):
             self.rows[number].add(row, place)
         else:
             self.failing[number] += 1
 
-    def root(self, number):
+    def root(self, number: int) -> Table:
         """The root of a table."""
-        while self.tables[number].parent is not None:
-            number = self.tables[number].parent
-        return self.tables[number]
+        table = self.tables[number]
+        while table.parent is not None:
+            table = self.tables[table.parent]
+        return table
 
-    def shown_row(self, number, row):
+    def shown_row(self, number: int, row: int) -> str:
         """A row with its file and its place there."""
         table, place = self.tables[number], self.rows[number].place(row)
-        where = f"{file_of(self.root(number))}{place}" if isinstance(place, str) else f"{file_of(table)}, line {place[1]} (record {place[0]})"
-        cells = [f"{visible(name)} = {shown(value, 40)}" for name, value in zip(table.columns, self.rows[number].rows[row])
+        if isinstance(place, str):
+            where = f"{file_of(self.root(number))}{place}"
+        else:
+            where = f"{file_of(table)}, line {place[1]} (record {place[0]})"
+        cells = [f"{visible(name)} = {shown(value, 40)}"
+                 for name, value in zip(table.columns, self.rows[number].rows[row])
                  if not name.startswith("#")]
         return f"{where}: " + ", ".join(cells[:8]) + (", .." if len(cells) > 8 else "")
 
 
-def file_of(table):
+def file_of(table: Table) -> str:
     """The file of a root."""
     return table.name + (".json" if table.inner else ".csv")

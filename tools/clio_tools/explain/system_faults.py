@@ -5,16 +5,15 @@ import resource
 import select
 import stat
 import tempfile
-
-from clio_tools.mapping.tables import tables_of
+from collections.abc import Iterator
 
 from clio_tools.explain.placed import MappingText
 from clio_tools.explain.said import amount, visible
+from clio_tools.mapping.tables import tables_of
+from clio_tools.safe_files import KINDS
 
-KINDS = {stat.S_IFDIR: "a folder", stat.S_IFIFO: "a pipe", stat.S_IFSOCK: "a socket", stat.S_IFCHR: "a device", stat.S_IFBLK: "a device"}
 
-
-def kind_of(path):
+def kind_of(path: str) -> str | None:
     """What a path is, if it is no plain file."""
     try:
         return KINDS.get(stat.S_IFMT(os.stat(path).st_mode))
@@ -22,7 +21,7 @@ def kind_of(path):
         return None
 
 
-def reading(file):
+def reading(file: str) -> Iterator[str]:
     """Why a file could not be read."""
     if kind_of(file):
         yield f"{file} is {kind_of(file)}"
@@ -39,7 +38,7 @@ def reading(file):
             yield f"{file} is a link to {visible(os.readlink(file))}, and such links lead in a circle"
 
 
-def permissions(path):
+def permissions(path: str) -> Iterator[str]:
     """Who owns a path, and who asks."""
     try:
         found = os.stat(path)
@@ -48,8 +47,8 @@ def permissions(path):
         pass
 
 
-def files_of(content, words):
-    """The names of the files in the order in which they are written; of a comparison none, since its result decides them."""
+def files_of(content: bytes | None, words: list[str]) -> list[str]:
+    """The names of the files in the order in which they are written, but for those of a comparison."""
     if words[:1] == ["answer"]:
         return ["answers.csv"]
     if words[:1] != ["exchange"] or content is None:
@@ -59,7 +58,7 @@ def files_of(content, words):
     return ["rules.txt", "script.sql", *(table.name + ".csv" for table in tables), "nulls.csv", "fold.csv", *nested]
 
 
-def writing(message, content, words):
+def writing(message: str, content: bytes | None, words: list[str]) -> Iterator[str]:
     """Which file could not be written, and why."""
     written = int(message.removeprefix("write fault: ").split(" ", 1)[0])
     files = files_of(content, words)
@@ -77,13 +76,15 @@ def writing(message, content, words):
     reasons = list(of_path(path))
     yield from reasons or [f"{path} could be written now: the disk may have been full for that moment"]
     if written:
-        yield f"{', '.join(files[:written][:8])}{', ..' if written > 8 else ''} are written; do not use out/ before a run ends with status 0"
+        yield (f"{', '.join(files[:written][:8])}{', ..' if written > 8 else ''} are written;"
+               " do not use out/ before a run ends with status 0")
 
 
-def of_path(path):
+def of_path(path: str) -> Iterator[str]:
     """Why a path in `out` can't be written; nothing if it can."""
     if os.path.islink("out"):
-        yield f"out is a link to {visible(os.readlink('out'))}, and clio writes into a folder of this name: move it away"
+        yield (f"out is a link to {visible(os.readlink('out'))}, and clio writes into a folder of this name: move it"
+               " away")
         return
     if os.path.lexists("out") and not os.path.isdir("out"):
         yield "out is a file, and clio writes into a folder of this name: move it away"
@@ -104,7 +105,7 @@ def of_path(path):
             yield from permissions("out" if os.path.isdir("out") else ".")
 
 
-def space():
+def space() -> Iterator[str]:
     """Whether the disk is full, or files may not be longer than some size."""
     found = os.statvfs("out" if os.path.isdir("out") else ".")
     if found.f_bavail * found.f_frsize < 1 << 20:
@@ -118,7 +119,7 @@ def space():
         yield f"files may not be longer than {most:,} bytes here (ulimit -f)"
 
 
-def output():
+def output() -> Iterator[str]:
     """Why standard output could not be written."""
     try:
         found = os.fstat(1)
@@ -139,15 +140,16 @@ def output():
         yield "standard output could not be written"
 
 
-def memory(content):
+def memory(content: bytes | None) -> Iterator[str]:
     """How much memory there is, and how much is read."""
     most = resource.getrlimit(resource.RLIMIT_AS)[0]
     if most != resource.RLIM_INFINITY:
         yield f"a program may take {most >> 20:,} MiB here (ulimit -v)"
     try:
-        with open("/proc/meminfo", encoding="ascii") as file:
-            kept = dict(line.split(":") for line in file)
-        yield f"the machine has {int(kept['MemAvailable'].split()[0]) >> 10:,} MiB left of {int(kept['MemTotal'].split()[0]) >> 10:,} MiB"
+        with open("/proc/meminfo", encoding="ascii") as opened:
+            kept = dict(line.split(":") for line in opened)
+        left, whole = (int(kept[name].split()[0]) >> 10 for name in ("MemAvailable", "MemTotal"))
+        yield f"the machine has {left:,} MiB left of {whole:,} MiB"
     except (OSError, KeyError, ValueError):
         pass
     total = 0

@@ -1,16 +1,17 @@
-"""What a refusal of a CSV file leaves out: the expected and the found header, the record with its fields, its line and why."""
+"""What a refusal of a CSV file leaves out: the expected and the found header; the record, its fields, its line, why."""
 import os
 import re
+from collections.abc import Iterator, Sequence
 
 from clio_tools.csv import MARK, NotText, ends_open, records, text
-
 from clio_tools.explain.said import amount, listed, shown, visible
+from clio_tools.mapping.tables import Table
 
 DELIMITERS = {";": "semicolons", "\t": "tabs", "|": "bars"}
 MOST_FIELDS = 70
 
 
-def absent(file, table):
+def absent(file: str, table: Table) -> Iterator[str]:
     """A file that isn't there, and what is there in its place."""
     here = sorted(os.listdir("."))
     stem, ending = os.path.splitext(file)
@@ -29,10 +30,11 @@ def absent(file, table):
     if table.inner:
         yield f"a set without rows has a document all the same: echo '[]' > {file}"
     else:
-        yield f"a set without rows has a file with its header all the same: echo '{','.join(table.tree.columns)}' > {file}"
+        yield ("a set without rows has a file with its header all the same:"
+               f" echo '{','.join(table.tree.columns)}' > {file}")
 
 
-def explain(message, file, content, columns):
+def explain(message: str, file: str, content: bytes, columns: Sequence[str]) -> Iterator[str]:
     """The lines that explain what is wrong with a file that must have these columns."""
     if content.startswith((b"\xff\xfe", b"\xfe\xff")):
         yield f"the file is UTF-16: iconv -f UTF-16 -t UTF-8 {file} > new; mv new {file}"
@@ -50,7 +52,7 @@ def explain(message, file, content, columns):
         yield from record(int(found[1] or found[2]), bool(found[1]), columns, content, file)
 
 
-def header(place, columns, content, file):
+def header(place: int, columns: Sequence[str], content: bytes, file: str) -> Iterator[str]:
     """The expected and the found header, and in what they differ."""
     _, found = next(records(content))
     yield "expected: " + ",".join(columns)
@@ -61,7 +63,8 @@ def header(place, columns, content, file):
     single = found[0] if len(found) == 1 else ""
     for delimiter, name in DELIMITERS.items():
         if delimiter in single:
-            yield f"the file has {name} between its fields, and clio reads commas: in a folder of such files, clio-draft csv . --delimiter '{visible(delimiter)}' --data FOLDER writes them anew"
+            yield (f"the file has {name} between its fields, and clio reads commas: in a folder of such files,"
+                   f" clio-draft csv . --delimiter '{visible(delimiter)}' --data FOLDER writes them anew")
             return
     if sorted(found) == sorted(columns):
         yield "the columns are the same in another order: declare them as the file has them"
@@ -69,21 +72,23 @@ def header(place, columns, content, file):
         yield "only capitals or spaces differ, and both count"
     if content.removeprefix(MARK).startswith(MARK):
         yield f"the file has a second byte order mark: sed -i '1s/^\\xef\\xbb\\xbf//' {file}"
-    lacking, more = [one for one in columns if one not in found], [one for one in found if one not in columns]
+    lacking = [one for one in columns if one not in found]
+    more = [one for one in found if one not in columns]
     if lacking:
         yield f"declared, but not in the file: {listed(lacking)}"
     if more:
         yield f"in the file, but not declared: {listed(more)}"
 
 
-def record(number, is_width, columns, content, file):
+def record(number: int, is_width: bool, columns: Sequence[str], content: bytes, file: str) -> Iterator[str]:
     """A record with its fields and its line, and what is wrong with it."""
     for place, (line, fields) in enumerate(records(content)):
         if place == number:
             break
     else:
         return
-    yield f"record {number} of {file} begins on line {line} and has {amount(len(fields), 'field')} for {amount(len(columns), 'column')}:"
+    yield (f"record {number} of {file} begins on line {line} and has"
+           f" {amount(len(fields), 'field')} for {amount(len(columns), 'column')}:")
     for position in range(max(min(len(fields), MOST_FIELDS), len(columns))):
         name = columns[position] if position < len(columns) else "(no column)"
         yield f"    {name} = {shown(fields[position])}" if position < len(fields) else f"    {name}: no field"
@@ -94,7 +99,7 @@ def record(number, is_width, columns, content, file):
         yield f"the last field of {file} runs to the end of the file, since its quote is never closed"
 
 
-def swallowed(fields, columns):
+def swallowed(fields: list[str], columns: Sequence[str]) -> Iterator[str]:
     """Fields with line ends in them, often by a quote that isn't closed."""
     for position, field in enumerate(fields):
         ends = field.count("\n")
@@ -103,7 +108,7 @@ def swallowed(fields, columns):
             yield f"{name} has {amount(ends, 'line end')} in it: a quote may not be closed where it should"
 
 
-def no_text(fields, columns):
+def no_text(fields: list[str], columns: Sequence[str]) -> Iterator[str]:
     """The bytes that aren't UTF-8, and what they are as Latin-1."""
     for position, field in enumerate(fields):
         try:
@@ -113,5 +118,6 @@ def no_text(fields, columns):
             try:
                 content.decode("utf-8")
             except UnicodeDecodeError as error:
-                yield (f"{columns[position]} isn't UTF-8 from its byte {error.start + 1} on, {content[error.start:error.start + 1].hex()}; "
-                       f"as Latin-1 it is {shown(content.decode('latin-1'))}")
+                byte = content[error.start:error.start + 1].hex()
+                yield (f"{columns[position]} isn't UTF-8 from its byte {error.start + 1} on, {byte};"
+                       f" as Latin-1 it is {shown(content.decode('latin-1'))}")

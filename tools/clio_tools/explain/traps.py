@@ -1,21 +1,24 @@
 """Warnings after a run without a refusal: what the manual's traps name. A comment of the mapping switches one off."""
 import pathlib
 import re
+from collections.abc import Iterator
 from typing import NamedTuple
 
 from clio_tools.csv import ends_open, records
-from clio_tools.mapping.meaning import read_mapping
-from clio_tools.mapping.rules import EXISTENTIAL, LITERAL, VARIABLE, TooLarge, closed, printed as printed_rule
-
 from clio_tools.explain.joins import Matches, TooMany
 from clio_tools.explain.open_keys import is_unknown, open_keys
 from clio_tools.explain.program import mapping_of
 from clio_tools.explain.quotes import odd_fields
 from clio_tools.explain.said import amount, listed, shown, visible
 from clio_tools.explain.source import Source, file_of
-
+from clio_tools.mapping.meaning import Mapping, read_mapping
+from clio_tools.mapping.rules import EXISTENTIAL, LITERAL, VARIABLE, Conclusion, Premise, Rule, TooLarge, closed
+from clio_tools.mapping.rules import printed as printed_rule
+from clio_tools.mapping.tables import Columns, Link, Table
 
 OFF = re.compile(r"//[ \t]*clio-explain:[ \t]*off[ \t]+([a-z-]+)(?:[ \t]+([\w#]+))?")
+ESCAPED = "a backslash is in front of the quote that closes it, but a quote in a quoted field is written twice"
+BEHIND = "what follows the quote that closes it belongs to the field"
 
 
 class Warned(NamedTuple):
@@ -44,21 +47,19 @@ def seen(text: str) -> str:
 class Traps:
     """The warnings on a mapping, and with its source on what happened to the rows."""
 
-    def __init__(self, content):
-        self.mapping, self.printed = mapping_of(content)
-        if self.mapping is None:
-            return
-        self.source, self.target, self.rules = self.mapping.source, self.mapping.target, self.mapping.rules
+    def __init__(self, mapping: Mapping, printed: list[str], content: bytes) -> None:
+        self.mapping, self.printed = mapping, printed
+        self.source, self.target, self.rules = mapping.source, mapping.target, mapping.rules
         written = read_mapping(content)
         self.lines = written.lines
-        self.by_hand = set()
+        self.by_hand: set[str] = set()
         for rule in written.rules:
             try:
                 self.by_hand.add(printed_rule(closed(rule, self.target), self.source, self.target))
             except TooLarge:
                 pass
 
-    def of_mapping(self):
+    def of_mapping(self) -> Iterator[Warned]:
         """What the mapping alone shows."""
         yield from self.sets_twice()
         yield from self.unused_columns()
@@ -68,66 +69,78 @@ class Traps:
         yield from self.refs_to_no_key()
         yield from self.open_keys()
 
-    def sets_twice(self):
+    def sets_twice(self) -> Iterator[Warned]:
         """Rules of lines that have a set twice on one side; in a rule that is written by hand that is meant."""
         for number, rule in enumerate(self.rules):
             if self.printed[number] in self.by_hand:
                 continue
-            for side, tables, atoms in ("left", self.source, rule.premise), ("right", self.target, rule.conclusion):
-                numbers = [atom.table for atom in atoms]
+            sides: list[tuple[str, list[Table], list[int]]] = [
+                ("left", self.source, [atom.table for atom in rule.premise]),
+                ("right", self.target, [atom.table for atom in rule.conclusion])]
+            for side, tables, numbers in sides:
                 twice = [tables[one].name for one in dict.fromkeys(numbers) if numbers.count(one) > 1]
                 if twice:
-                    yield Warned("twice", twice[0], [f"rule {number} has {listed(twice)} twice on its {side}, since two ways lead there: is it meant? "
-                                                     f"If not, leave out a ref, or write rules: {visible(self.printed[number])[:300]}"])
+                    yield Warned("twice", twice[0], [
+                        f"rule {number} has {listed(twice)} twice on its {side}, since two ways lead there: is it"
+                        f" meant? If not, leave out a ref, or write rules: {visible(self.printed[number])[:300]}"])
 
-    def unused_columns(self):
+    def unused_columns(self) -> Iterator[Warned]:
         """Columns of the source that go nowhere and join nothing."""
         used = {(atom.table, column) for rule in self.rules for atom, column in used_cells(rule)}
         read = {atom.table for rule in self.rules for atom in rule.premise}
         for number, table in enumerate(self.source):
-            unused = [name for column, name in enumerate(table.columns) if name in table.tree.columns and (number, column) not in used]
+            unused = [name for column, name in enumerate(table.columns)
+                      if name in table.tree.columns and (number, column) not in used]
             if number not in read:
                 yield Warned("unused", table.name, [f"no rule uses {table.name} of the source"])
             elif unused:
-                yield Warned("unused", table.name, [f"no rule uses {amount(len(unused), 'column')} of {table.name}: {listed(unused, 64)}"])
+                yield Warned("unused", table.name, [
+                    f"no rule uses {amount(len(unused), 'column')} of {table.name}: {listed(unused, 64)}"])
 
-    def unfilled_columns(self):
+    def unfilled_columns(self) -> Iterator[Warned]:
         """Columns of the target that have nulls alone, to which nothing refers."""
         made = {atom.table for rule in self.rules for atom in rule.conclusion}
         filled = {(atom.table, column) for rule in self.rules for atom, column in filled_cells(rule)}
         for number, table in enumerate(self.target):
-            unfilled = [name for column, name in enumerate(table.columns) if name in table.tree.columns and (number, column) not in filled]
+            unfilled = [name for column, name in enumerate(table.columns)
+                        if name in table.tree.columns and (number, column) not in filled]
             if number not in made:
-                yield Warned("unfilled", table.name, [f"no rule makes rows of {table.name}" + self.literals_alone(number)])
+                yield Warned("unfilled", table.name,
+                             [f"no rule makes rows of {table.name}" + self.literals_alone(number)])
             elif unfilled:
-                yield Warned("unfilled", table.name, [f"nothing fills {amount(len(unfilled), 'column')} of {table.name}, and nothing refers there: "
-                                                      f"{listed(unfilled, 64)}"])
+                yield Warned("unfilled", table.name, [
+                    f"nothing fills {amount(len(unfilled), 'column')} of {table.name}, and nothing refers there:"
+                    f" {listed(unfilled, 64)}"])
 
-    def literals_alone(self, number):
+    def literals_alone(self, number: int) -> str:
         """Why a table that lines lead to has no rows."""
         reached = [line for line in self.lines if line.target.table == number]
-        return ": lines from texts alone make no rows" if reached and all(line.literal is not None for line in reached) else ""
+        are_literals = bool(reached) and all(line.literal is not None for line in reached)
+        return ": lines from texts alone make no rows" if are_literals else ""
 
-    def ungrouped(self):
+    def ungrouped(self) -> Iterator[Warned]:
         """Tables without a key of their own to which rows refer by a value that rules leave open."""
         for number, table in enumerate(self.target):
             for place, rule in enumerate(self.rules):
                 if any(link.table == number and not has_other_key(table, link.referred) and is_open(rule, atom, link)
                        for atom in rule.conclusion for link in self.target[atom.table].links):
-                    yield Warned("ungrouped", table.name, [f"each match of rule {place} makes a row of its own in {table.name}: the rule leaves open the "
-                                                           f"value by which other rows refer to it, and {table.name} has no other key"])
+                    yield Warned("ungrouped", table.name, [
+                        f"each match of rule {place} makes a row of its own in {table.name}: the rule leaves open the"
+                        f" value by which other rows refer to it, and {table.name} has no other key"])
                     break
 
-    def hidden_literals(self):
+    def hidden_literals(self) -> Iterator[Warned]:
         """Lines from texts that no rule has: other lines fill the column wherever a rule makes a row."""
         for line in self.lines:
             table = self.target[line.target.table]
-            cells = [atom.cells[line.target.column] for rule in self.rules for atom in rule.conclusion if atom.table == line.target.table]
+            cells = [atom.cells[line.target.column] for rule in self.rules for atom in rule.conclusion
+                     if atom.table == line.target.table]
             if line.literal is not None and cells and not any(cell == (LITERAL, line.literal) for cell in cells):
-                yield Warned("literal", table.name, [f"no rule has the text of line {shown(line.literal)} -> {table.name}.{table.columns[line.target.column]}: "
-                                                     "in each, another line fills the column"])
+                yield Warned("literal", table.name, [
+                    f"no rule has the text of line {shown(line.literal)} -> {table.name}."
+                    f"{table.columns[line.target.column]}: in each, another line fills the column"])
 
-    def refs_to_no_key(self):
+    def refs_to_no_key(self) -> Iterator[Warned]:
         """Refs of the target that lead to columns which are no key there."""
         for number, table in enumerate(self.target):
             for link in table.every_link()[table.parent is not None:]:
@@ -135,47 +148,52 @@ class Traps:
                 if not any(set(key) <= set(link.referred) for key in other.keys):
                     referred = listed(other.columns[column] for column in link.referred)
                     own = listed(table.columns[column] for column in link.own)
-                    yield Warned("no-key", table.name, [f"ref ({own}) -> {other.name} ({referred}) of {table.name} leads to columns that are no key of "
-                                                        f"{other.name}: rows that refer to one value may get several rows there, each with nulls of its own"])
+                    yield Warned("no-key", table.name, [
+                        f"ref ({own}) -> {other.name} ({referred}) of {table.name} leads to columns that are no key of"
+                        f" {other.name}: rows that refer to one value may get several rows there, each with nulls of"
+                        " its own"])
 
-    def open_keys(self):
+    def open_keys(self) -> Iterator[Warned]:
         """Rows without the key that other rules fill."""
         for name, line in open_keys(self.mapping, self.printed, self.by_hand):
             yield Warned("open-key", name, [line])
 
-    def of_data(self, in_core_mode):
+    def of_data(self, in_core_mode: bool) -> Iterator[Warned]:
         """What happened to the rows of the source."""
         yield from self.quotes()
         source = Source(self.mapping)
         for number, table in enumerate(self.source):
             rows = source.rows[number]
             if rows.repeats:
-                yield Warned("repeats", table.name, [f"{table.name}: of {amount(rows.records, 'row')}, {rows.repeats:,} "
-                                                     f"{'repeats' if rows.repeats == 1 else 'repeat'} an earlier one, which counts once"])
+                repeat = "repeats" if rows.repeats == 1 else "repeat"
+                yield Warned("repeats", table.name, [
+                    f"{table.name}: of {amount(rows.records, 'row')}, {rows.repeats:,} {repeat} an earlier one, which"
+                    " counts once"])
         yield from self.dropped(source)
         yield from self.rows_of_nulls(in_core_mode)
         yield from self.of_matches(source)
 
-    def quotes(self):
+    def quotes(self) -> Iterator[Warned]:
         """Quotes that are read otherwise than the writer of a file meant."""
         for table in self.source:
             if table.parent is not None or table.inner:
                 continue
             file, content = file_of(table), pathlib.Path(file_of(table)).read_bytes()
             if b'"' in content and ends_open(content):
-                yield Warned("quote", table.name, [f"a quote of {file} is never closed: its last field runs to the end of the file"])
+                yield Warned("quote", table.name, [
+                    f"a quote of {file} is never closed: its last field runs to the end of the file"])
             odd = list(odd_fields(content))
             for one in odd[:3]:
                 column = table.columns[one.column] if one.column < len(table.columns) else f"field {one.column + 1}"
-                why = ("a backslash is in front of the quote that closes it, but a quote in a quoted field is written twice" if one.is_escaped
-                       else "what follows the quote that closes it belongs to the field")
-                yield Warned("quote", table.name, [f"{file}, record {one.record}: column {column} has text behind its closing quote: {why}"])
+                yield Warned("quote", table.name, [
+                    f"{file}, record {one.record}: column {column} has text behind its closing quote:"
+                    f" {ESCAPED if one.is_escaped else BEHIND}"])
             if len(odd) > 3:
                 yield Warned("quote", table.name, [f"{file} has {amount(len(odd) - 3, 'such field')} more"])
 
-    def of_matches(self, source):
+    def of_matches(self, source: Source) -> Iterator[Warned]:
         """Matches that say the same, and keys with nothing in them."""
-        empty = {}
+        empty: dict[tuple[int, int], int] = {}
         for number, rule in enumerate(self.rules):
             try:
                 matches = Matches(rule, source)
@@ -186,25 +204,30 @@ class Traps:
             self.count_empty(rule, matches, empty)
         for (table, key), count in sorted(empty.items()):
             if count > 1:
-                names = listed(self.target[table].columns[column] for column in self.target[table].keys[key])
-                yield Warned("empty-key", self.target[table].name, [f"{count:,} matches ask for a row of {self.target[table].name} with nothing in its key "
-                                                                    f"({names}), so it is one row"])
+                there = self.target[table]
+                names = listed(there.columns[column] for column in there.keys[key])
+                yield Warned("empty-key", there.name, [
+                    f"{count:,} matches ask for a row of {there.name} with nothing in its key ({names}), so it is one"
+                    " row"])
 
-    def rows_of_nulls(self, in_core_mode):
+    def rows_of_nulls(self, in_core_mode: bool) -> Iterator[Warned]:
         """Rows in which nothing is known, as a ref of the target asks for, beside others of their table."""
         for number, table in enumerate(self.target):
-            unknown = [place for place, rule in enumerate(self.rules) if any(atom.table == number and is_unknown(atom) for atom in rule.conclusion)]
+            unknown = [place for place, rule in enumerate(self.rules)
+                       if any(atom.table == number and is_unknown(atom) for atom in rule.conclusion)]
             if not unknown:
                 continue
             rows = [fields for _, fields in records(pathlib.Path("out", f"{table.name}.csv").read_bytes())][1:]
             count = sum(1 for fields in rows if all(field[:1] == "?" and field[1:2] != "?" for field in fields))
             if 0 < count < len(rows):
                 fill = f"rule {unknown[0]} fills" if len(unknown) == 1 else f"rules {listed(map(str, unknown))} fill"
+                core = "" if in_core_mode else "use core mode, "
                 yield Warned("nulls", table.name, [
-                    f"{count:,} of {len(rows):,} rows of {table.name} {'holds' if count == 1 else 'hold'} nothing but nulls, since {fill} no column there: "
-                    f"if that isn't meant, {'' if in_core_mode else 'use core mode, '}make refs to {table.name} optional (mapping 2), or write rules in place of lines"])
+                    f"{count:,} of {len(rows):,} rows of {table.name} {'holds' if count == 1 else 'hold'} nothing but"
+                    f" nulls, since {fill} no column there: if that isn't meant, {core}make refs to {table.name}"
+                    " optional (mapping 2), or write rules in place of lines"])
 
-    def dropped(self, source):
+    def dropped(self, source: Source) -> Iterator[Warned]:
         """Refs of the source that drop rows, and refs that no line uses."""
         for number, table in enumerate(self.source):
             for link in table.links[table.parent is not None:]:
@@ -214,40 +237,46 @@ class Traps:
                 lost = [place for place, row in enumerate(source.rows[number].rows)
                         if tuple([row[column] for column in link.own]) not in there]
                 if lost:
-                    lines = [self.of_ref(table, link) + f": rows of {table.name} without a match there are dropped, {len(lost):,} of "
-                             f"{len(source.rows[number].rows):,}; {self.cure(link)}"]
-                    yield Warned("dropped", table.name, lines + [line for place in lost[:3] for line in self.of_lost(source, number, link, place)])
+                    lines = [f"{self.of_ref(table, link)}: rows of {table.name} without a match there are dropped,"
+                             f" {len(lost):,} of {len(source.rows[number].rows):,}; {self.cure(link)}"]
+                    for place in lost[:3]:
+                        lines += self.of_lost(source, number, link, place)
+                    yield Warned("dropped", table.name, lines)
 
-    def of_lost(self, source, number, link, place):
+    def of_lost(self, source: Source, number: int, link: Link, place: int) -> Iterator[str]:
         """A row that a ref drops, and a value there that only seems to be the same."""
         yield f"   {source.shown_row(number, place)}"
         for own, referred in zip(link.own, link.referred):
-            text, there = source.rows[number].rows[place][own], {row[referred] for row in source.rows[link.table].rows}
+            text = source.rows[number].rows[place][own]
+            there = {row[referred] for row in source.rows[link.table].rows}
             other = differs_by_space(text, there) if text not in there else None
             if other is not None:
-                yield (f"   {shown(text)} differs from {shown(other)} of {self.source[link.table].name} by a space, or another sign that isn't seen: "
-                       "a line or rule by trim doesn't help the ref, so mend the file")
+                yield (f"   {shown(text)} differs from {shown(other)} of {self.source[link.table].name} by a space, or"
+                       " another sign that isn't seen: a line or rule by trim doesn't help the ref, so mend the file")
 
-    def unused_refs(self):
+    def unused_refs(self) -> Iterator[Warned]:
         """Refs along which no line goes, by which rows without a match are dropped."""
         for number, table in enumerate(self.source):
             for link in table.links[table.parent is not None:]:
                 if self.is_taken_along(number, link) and not self.is_used(link):
-                    yield Warned("dropped", table.name, [f"{self.of_ref(table, link)}: no line uses it, and rows without a match there are dropped"])
+                    yield Warned("dropped", table.name, [
+                        f"{self.of_ref(table, link)}: no line uses it, and rows without a match there are dropped"])
 
-    def of_ref(self, table, link):
+    def of_ref(self, table: Table, link: Link) -> str:
+        """A ref, with its set."""
         other = self.source[link.table]
         return (f"ref ({listed(table.columns[column] for column in link.own)}) -> {other.name} "
                 f"({listed(other.columns[column] for column in link.referred)}) of {table.name}")
 
-    def is_taken_along(self, number, link):
+    def is_taken_along(self, number: int, link: Link) -> bool:
         """Whether some rule takes rows of the table, and each takes them only with their match."""
         rules = [rule for rule in self.rules if any(atom.table == number for atom in rule.premise)]
         return bool(rules) and all(any(atom.table == link.table for atom in rule.premise) for rule in rules)
 
-    def is_used(self, link):
+    def is_used(self, link: Link) -> bool:
         """Whether a line goes from a table that the ref leads to."""
-        reached, left = set(), [link.table]
+        reached: set[int] = set()
+        left = [link.table]
         while left:
             one = left.pop()
             if one not in reached:
@@ -255,63 +284,68 @@ class Traps:
                 left += [further.table for further in self.source[one].links]
         return any(column.table in reached for line in self.lines for column in line.columns)
 
-    def cure(self, link):
+    def cure(self, link: Link) -> str:
+        """What to do about a ref that drops rows."""
         if self.is_used(link):
             return "make the ref optional (mapping 2), and they are taken too"
         return "no line uses the ref: leave it out"
 
-    def became_one(self, number, rule, matches):
+    def became_one(self, number: int, rule: Rule, matches: Matches) -> Iterator[Warned]:
         """Matches of a rule that say the same."""
         less = matches.number - len(matches.found)
         if less:
             exported = set(rule.exported())
             names = list(dict.fromkeys(f"{self.source[atom.table].name}.{self.source[atom.table].columns[column]}"
                                        for atom in rule.premise for column, cell in enumerate(atom.cells)
-                                       if cell in exported or any(cell in derived.arguments for derived in rule.derived)))
+                                       if cell in exported
+                                       or any(cell in derived.arguments for derived in rule.derived)))
             yield Warned("one", self.source[rule.premise[0].table].name, [
-                f"rule {number}: {amount(matches.number, 'match', 'matches')} are {len(matches.found):,} different ones, since only "
-                f"{listed(names) or 'texts of the mapping'} go on: {visible(self.printed[number])[:200]}"])
+                f"rule {number}: {amount(matches.number, 'match', 'matches')} are {len(matches.found):,} different"
+                f" ones, since only {listed(names) or 'texts of the mapping'} go on:"
+                f" {visible(self.printed[number])[:200]}"])
 
-    def count_empty(self, rule, matches, empty):
+    def count_empty(self, rule: Rule, matches: Matches, empty: dict[tuple[int, int], int]) -> None:
         """Counts for each declared key the tuples that put nothing in all of its columns."""
         for atom in rule.conclusion:
             for key, columns in enumerate(self.target[atom.table].keys):
                 cells = [atom.cells[column] for column in columns]
                 if all(cell.kind == VARIABLE or cell == (LITERAL, "") for cell in cells):
-                    places = [matches.exported.index(cell.content) for cell in cells if cell.kind == VARIABLE]
+                    places = [matches.exported.index(int(cell.content)) for cell in cells if cell.kind == VARIABLE]
                     count = sum(1 for texts in matches.found if not any(texts[place] for place in places))
                     empty[atom.table, key] = empty.get((atom.table, key), 0) + count
 
 
-def used_cells(rule):
+def used_cells(rule: Rule) -> list[tuple[Premise, int]]:
     """The cells of a rule's left side whose texts go on or join."""
     cells = [cell for atom in rule.premise for cell in atom.cells]
     going = set(rule.exported()).union(*(derived.arguments for derived in rule.derived))
-    return [(atom, column) for atom in rule.premise for column, cell in enumerate(atom.cells) if cell in going or cells.count(cell) > 1]
+    return [(atom, column) for atom in rule.premise for column, cell in enumerate(atom.cells)
+            if cell in going or cells.count(cell) > 1]
 
 
-def filled_cells(rule):
+def filled_cells(rule: Rule) -> list[tuple[Conclusion, int]]:
     """The cells of a rule's right side that are no null that stands there alone."""
     cells = rule.conclusion_cells()
     return [(atom, column) for atom in rule.conclusion for column, cell in enumerate(atom.cells)
             if cell.kind != EXISTENTIAL or cells.count(cell) > 1]
 
 
-def has_other_key(table, referred):
+def has_other_key(table: Table, referred: Columns) -> bool:
     """Whether a table has a key besides the columns that are referred to."""
     return any(not set(key) <= set(referred) for key in table.keys)
 
 
-def is_open(rule, atom, link):
+def is_open(rule: Rule, atom: Conclusion, link: Link) -> bool:
     """Whether the cells that refer along a link are left open by a rule."""
     return all(atom.cells[column].kind == EXISTENTIAL for column in link.own)
 
 
-def all_warnings(words, content):
+def all_warnings(words: list[str], content: bytes) -> Iterator[Warned]:
     """The warnings after `show` or `exchange`."""
-    traps = Traps(content)
-    if traps.mapping is None:
+    mapping, printed = mapping_of(content)
+    if mapping is None:
         return
+    traps = Traps(mapping, printed, content)
     yield from traps.of_mapping()
     if words[0] == "exchange":
         yield from traps.of_data("--core" in words)
@@ -319,7 +353,7 @@ def all_warnings(words, content):
         yield from traps.unused_refs()
 
 
-def explain(words, content):
+def explain(words: list[str], content: bytes) -> Iterator[str]:
     """The lines of the warnings that no comment switches off, each with its name."""
     off = switched_off(content)
     for one in all_warnings(words, content):

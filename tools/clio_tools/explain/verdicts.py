@@ -1,16 +1,20 @@
-"""What a verdict on a given target leaves out: the match whose rows aren't there and the row that comes nearest, or the rows that break a key or a link."""
+"""What a verdict on a given target leaves out: the match whose rows aren't there and the row that comes nearest, or
+the rows that break a key or a link.
+"""
 import pathlib
 import re
 import subprocess
+from collections.abc import Iterable, Iterator
 
 from clio_tools.csv import records
-from clio_tools.mapping.rules import EXISTENTIAL, VARIABLE
-
 from clio_tools.explain.given_faults import FOLDER
 from clio_tools.explain.joins import Matches, TooMany
 from clio_tools.explain.program import mapping_of, program
 from clio_tools.explain.said import amount, listed, shown, visible
 from clio_tools.explain.source import Source
+from clio_tools.mapping.meaning import Mapping
+from clio_tools.mapping.rules import EXISTENTIAL, Rule
+from clio_tools.mapping.tables import Table
 
 FORM = re.compile(r"verdict not a solution: (?:rule (\d+) place (\d+)|(key|link) (\d+) of table (\w+))\n", re.ASCII)
 ROWS = 3  # rows that are told of a link that doesn't hold
@@ -19,52 +23,66 @@ ROWS = 3  # rows that are told of a link that doesn't hold
 class Given:
     """The rows of each table of a given target, as values are written, and the line of each."""
 
-    def __init__(self, tables):
-        self.tables, self.rows, self.lines = tables, [], []
+    def __init__(self, tables: list[Table]) -> None:
+        self.tables = tables
+        self.rows: list[list[list[str]]] = []
+        self.lines: list[list[int]] = []
         for table in tables:
             entries = list(records(pathlib.Path(FOLDER, f"{table.name}.csv").read_bytes()))[1:]
             self.rows.append([fields for _, fields in entries])
             self.lines.append([line for line, _ in entries])
 
-    def shown_row(self, table, row):
+    def shown_row(self, table: int, row: int) -> str:
         """A row with its file and its place there."""
-        cells = [f"{visible(name)} = {shown_value(value)}" for name, value in zip(self.tables[table].columns, self.rows[table][row])]
-        return f"{FOLDER}{self.tables[table].name}.csv, line {self.lines[table][row]} (record {row + 1}): " + ", ".join(cells[:8]) + (", .." if len(cells) > 8 else "")
+        cells = [f"{visible(name)} = {shown_value(value)}"
+                 for name, value in zip(self.tables[table].columns, self.rows[table][row])]
+        place = f"{FOLDER}{self.tables[table].name}.csv, line {self.lines[table][row]} (record {row + 1})"
+        return f"{place}: " + ", ".join(cells[:8]) + (", .." if len(cells) > 8 else "")
 
-    def broken_key(self, number, place):
+    def broken_key(self, number: int, place: int) -> Iterator[str]:
         """Two rows of a table that agree on a key, or on the left of a dependency, and differ."""
-        table, first = self.tables[number], {}
+        table = self.tables[number]
+        first: dict[tuple[str, ...], int] = {}
         left, right = table.determinations()[place]
         for row, values in enumerate(self.rows[number]):
             other = first.setdefault(tuple([values[column] for column in left]), row)
-            differing = [table.columns[column] for column in right if values[column] != self.rows[number][other][column]]
+            differing = [table.columns[column] for column in right
+                         if values[column] != self.rows[number][other][column]]
             if differing:
-                yield f"two rows of {table.name} agree on ({listed(table.columns[column] for column in left)}) and differ in {listed(differing)}:"
+                yield (f"two rows of {table.name} agree on ({listed(table.columns[column] for column in left)})"
+                       f" and differ in {listed(differing)}:")
                 yield f"   {self.shown_row(number, other)}"
                 yield f"   {self.shown_row(number, row)}"
                 return
 
-    def broken_link(self, number, place):
+    def broken_link(self, number: int, place: int) -> Iterator[str]:
         """The rows of a table that lead nowhere."""
         table, link = self.tables[number], self.tables[number].links[place]
         there = {tuple([values[column] for column in link.referred]) for values in self.rows[link.table]}
-        lost = [row for row, values in enumerate(self.rows[number]) if tuple([values[column] for column in link.own]) not in there]
-        referred = self.tables[link.table]
-        yield (f"{amount(len(lost), 'row')} of {table.name} {'leads' if len(lost) == 1 else 'lead'} nowhere by ({listed(table.columns[column] for column in link.own)}) -> "
-               f"{referred.name} ({listed(referred.columns[column] for column in link.referred)}):")
+        lost = [row for row, values in enumerate(self.rows[number])
+                if tuple([values[column] for column in link.own]) not in there]
+        other = self.tables[link.table]
+        own = listed(table.columns[column] for column in link.own)
+        referred = listed(other.columns[column] for column in link.referred)
+        yield (f"{amount(len(lost), 'row')} of {table.name} {'leads' if len(lost) == 1 else 'lead'} nowhere"
+               f" by ({own}) -> {other.name} ({referred}):")
         for row in lost[:ROWS]:
             yield f"   {self.shown_row(number, row)}"
 
-    def missing(self, number, wanted):
-        """If no row has the wanted values, which, by columns, and the row that comes nearest; if they have a key, one that agrees on it."""
+    def missing(self, number: int, wanted: dict[int, str]) -> Iterator[str]:
+        """If no row has the wanted values, which, by columns, and the row that comes nearest; if they have a key, one
+        that agrees on it.
+        """
         table, rows = self.tables[number], self.rows[number]
         agreeing = [[column for column, value in wanted.items() if values[column] == value] for values in rows]
         if any(len(columns) == len(wanted) for columns in agreeing):
             return
-        asked = ", ".join(f"{visible(table.columns[column])} = {shown_value(value)}" for column, value in wanted.items())
+        asked = ", ".join(f"{visible(table.columns[column])} = {shown_value(value)}"
+                          for column, value in wanted.items())
         yield f"no row of {FOLDER}{table.name}.csv has {asked}" if wanted else f"{FOLDER}{table.name}.csv has no row"
         keys = [set(key) for key in table.keys if set(key) <= set(wanted)]
-        close = [row for row, columns in enumerate(agreeing) if (any(key <= set(columns) for key in keys) if keys else columns)]
+        close = [row for row, columns in enumerate(agreeing)
+                 if (any(key <= set(columns) for key in keys) if keys else columns)]
         if close:
             nearest = max(close, key=lambda row: len(agreeing[row]))
             yield f"   nearest: {self.shown_row(number, nearest)}"
@@ -73,42 +91,48 @@ class Given:
                     yield f"   {visible(table.columns[column])} must be the empty text, which is not a null"
 
 
-def is_null(value):
+def is_null(value: str) -> bool:
+    """Whether a value is a null."""
     return value[:1] == "?" and value[1:2] != "?"
 
 
-def shown_value(value):
+def shown_value(value: str) -> str:
     """A value as it is written: a null as it is, a text in quotes."""
     return visible(value) if is_null(value) else shown(value.removeprefix("?"), 40)
 
 
-def broken_rule(mapping, number, place, given):
+def broken_rule(mapping: Mapping, number: int, place: int, given: Given) -> Iterator[str]:
     """A match of a rule, and which rows that it asks for aren't there."""
     rule, source = mapping.rules[number], Source(mapping)
     matches = Matches(rule, source)
     texts = matches.places()[place]
-    for line, (table, row) in enumerate(dict.fromkeys((atom.table, row) for atom, row in zip(rule.premise, matches.found[texts][0]))):
+    chosen = dict.fromkeys((atom.table, row) for atom, row in zip(rule.premise, matches.found[texts][0]))
+    for line, (table, row) in enumerate(chosen):
         yield f"   {' and' if line else 'from'} {source.shown_row(table, row)}"
-    values, lacking = dict(zip(matches.exported, texts)), []
+    values = dict(zip(matches.exported, texts))
+    lacking: list[str] = []
     for atom in rule.conclusion:
-        known = {column: values[cell.content] if cell.kind == VARIABLE else cell.content for column, cell in enumerate(atom.cells) if cell.kind != EXISTENTIAL}
-        lacking += given.missing(atom.table, {column: "?" + text if text.startswith("?") else text for column, text in known.items()})
-    yield from lacking or [f"each row that it asks for is there, but not joined as it asks: by {listed(shared(rule, mapping.target))}"]
+        known = {column: cell.content if isinstance(cell.content, str) else values[cell.content]
+                 for column, cell in enumerate(atom.cells) if cell.kind != EXISTENTIAL}
+        lacking += given.missing(atom.table, {column: "?" + text if text.startswith("?") else text
+                                              for column, text in known.items()})
+    yield from lacking or [("each row that it asks for is there, but not joined as it asks:"
+                            f" by {listed(shared(rule, mapping.target))}")]
 
 
-def shared(rule, target):
+def shared(rule: Rule, target: list[Table]) -> Iterable[str]:
     """The columns in which a rule has an open variable that it has elsewhere too."""
     cells = [cell for cell in rule.conclusion_cells() if cell.kind == EXISTENTIAL]
     return dict.fromkeys(f"{target[atom.table].name}.{target[atom.table].columns[column]}" for atom in rule.conclusion
                          for column, cell in enumerate(atom.cells) if cells.count(cell) > 1)
 
 
-def explain(content):
+def explain(content: bytes) -> Iterator[str]:
     """The lines that explain the verdict that clio judge prints."""
     ended = subprocess.run([program(), "judge"], stdin=subprocess.DEVNULL, capture_output=True, check=False)
     found = FORM.fullmatch(ended.stdout.decode())
     mapping, printed = mapping_of(content) if found else (None, [])
-    if mapping is None:
+    if found is None or mapping is None:
         return
     given = Given(mapping.target)
     if found[1]:
@@ -119,4 +143,5 @@ def explain(content):
             yield "the rule has too many matches to look for this one here"
         return
     number = next(number for number, table in enumerate(mapping.target) if table.name == found[5])
-    yield from given.broken_key(number, int(found[4])) if found[3] == "key" else given.broken_link(number, int(found[4]))
+    place = int(found[4])
+    yield from given.broken_key(number, place) if found[3] == "key" else given.broken_link(number, place)

@@ -1,5 +1,6 @@
-"""What lines mean before clio has printed a rule: the unfoldings of tables, the ways to give values along them, and the rules that they
-become. clio refuses a mapping that has too many of these without a word on which lines and refs make them; here they are counted."""
+"""What lines mean before clio has printed a rule: the unfoldings of tables, the ways to give values along them, and the
+rules that they become. clio refuses a mapping that has too many of these without a word on which lines and refs make
+them; here they are counted."""
 from __future__ import annotations
 
 import itertools
@@ -70,7 +71,8 @@ def unfolding(tables: list[Table], table: int, choice: Choice) -> list[Occurrenc
 
     def visit(number: int, chosen: Choice, given: dict[int, int], parent: int | None, is_optional: bool) -> None:
         place = len(occurrences)
-        variables = tuple([given[column] if column in given else next(fresh) for column in range(len(tables[number].columns))])
+        variables = tuple([given[column] if column in given else next(fresh)
+                           for column in range(len(tables[number].columns))])
         occurrences.append(Occurrence(number, variables, parent, is_optional))
         for position, (link, behind) in enumerate(zip(tables[number].every_link(), chosen)):
             if behind is not None:
@@ -92,7 +94,9 @@ def variants_of(tables: list[Table]) -> list[list[list[Occurrence]]]:
 
 
 def parts_at(occurrences: list[Occurrence], top: int) -> list[frozenset[int]]:
-    """The sets of places that an occurrence and what follows from it give if some optional ones, with all behind them, are left out."""
+    """The sets of places that an occurrence and what follows from it give if some optional ones, with all behind them,
+    are left out.
+    """
     parts = [frozenset([top])]
     for place, occurrence in enumerate(occurrences):
         if occurrence.parent == top:
@@ -173,7 +177,8 @@ def first_literals(lines: Iterable[Line], target: list[Occurrence]) -> dict[int,
     return literals
 
 
-def rule_of(picks: dict[int, Term], literals: dict[int, str], source: list[Occurrence], target: list[Occurrence]) -> Rule:
+def rule_of(picks: dict[int, Term], literals: dict[int, str], source: list[Occurrence],
+            target: list[Occurrence]) -> Rule:
     """The rule of a candidate: the source's unfolding as premise, the target's as conclusion."""
     derived: list[Derived] = []
     names = list(CONVERSIONS)
@@ -191,18 +196,21 @@ def rule_of(picks: dict[int, Term], literals: dict[int, str], source: list[Occur
             derived.append(call)
         return Cell(VARIABLE, first + derived.index(call))
 
-    conclusion = [Conclusion(occurrence.table, tuple([cell(variable) for variable in occurrence.variables])) for occurrence in target]
+    conclusion = [Conclusion(occurrence.table, tuple([cell(variable) for variable in occurrence.variables]))
+                  for occurrence in target]
     return Rule(premise, numbered(conclusion), derived)
 
 
 def rules_of_lines(lines: list[Line], source: list[Table], target: list[Table]) -> list[Rule]:
     """The rules of the kept candidates of all pairs of an unfolding of a source and one of a target table, in order."""
     rules = []
-    for one, other in itertools.product(itertools.chain(*variants_of(source)), list(itertools.chain(*variants_of(target)))):
+    for one, other in itertools.product(itertools.chain(*variants_of(source)),
+                                        list(itertools.chain(*variants_of(target)))):
         ways = ways_of(lines, one, other)
         if ways:
             smaller = ([ways_of(lines, part, other) for part in greatest_proper_parts(one)]
                        + [ways_of(lines, one, part) for part in greatest_proper_parts(other)])
             literals = first_literals(lines, other)
-            rules += [rule_of(picks, literals, one, other) for picks in candidates_of(ways) if not is_dropped(picks, smaller)]
+            rules += [rule_of(picks, literals, one, other)
+                      for picks in candidates_of(ways) if not is_dropped(picks, smaller)]
     return rules
