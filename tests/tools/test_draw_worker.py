@@ -1,0 +1,234 @@
+"""clio-draw's live runs on all examples: the rows are those of clio, each row has a reason, and samples keep links."""
+import csv
+import itertools
+import json
+import os
+import pathlib
+import re
+import subprocess
+import unittest
+import unittest.mock
+from typing import Any
+
+import draw_trial
+from trial import PROGRAM
+
+from clio_tools.draw.faults import place_of
+from clio_tools.draw.worker import Worker
+
+TWO_FILES = ("mapping 1; source { set a { x, y; ref (y) -> b (z); } set b { z, w; } } target { set c { u, v; } } "
+             "line a.x -> c.u; line b.w -> c.v;")
+
+
+class Asked:
+    """A worker, asked by words."""
+
+    def __init__(self, folder: pathlib.Path, seconds: float = 10) -> None:
+        self.worker = Worker(str(folder), str(draw_trial.room()), seconds)
+
+    def __call__(self, do: str, **words: object) -> Any:
+        return self.worker.answer({"do": do, **words})
+
+    def live(self, text: str, core: bool = False, rows: int | None = 100, is_drawing: bool = False) -> Any:
+        """A live run."""
+        return self("live", text=text, is_drawing=is_drawing, core=core, rows=rows)
+
+
+def clio(folder: pathlib.Path, *words: str) -> "subprocess.CompletedProcess[bytes]":
+    """The program in a copy of a folder."""
+    made = draw_trial.room()
+    for path in folder.iterdir():
+        if path.is_file():
+            (made / path.name).symlink_to(path)
+    return subprocess.run([PROGRAM, *words], cwd=made, capture_output=True, check=False, timeout=60)
+
+
+class Live(unittest.TestCase):
+    def setUp(self) -> None:
+        self.addCleanup(os.chdir, os.getcwd())
+
+    def test_every_row_of_every_example_has_a_reason(self) -> None:
+        found = [0, 0, 0]
+        for path, content in draw_trial.texts():
+            if path.name == "mapping.clio":
+                for core in False, True:
+                    self.of_example(path.parent, content, core, found)
+        self.assertGreater(found[0], 100)
+        self.assertGreater(found[1], 2000)
+        self.assertGreater(found[2], 1000)
+
+    def of_example(self, folder: pathlib.Path, content: bytes, core: bool, found: list[int]) -> None:
+        """A run ends as clio does, each of its rows has a reason, and each source row goes somewhere or is unused."""
+        ended = clio(folder, "exchange", *["--core"] * core)
+        if b"absent" in ended.stderr:  # there the page makes rows up
+            return
+        ask = Asked(folder)
+        try:
+            made = ask.live(content.decode(), core, 2000)
+        except UnicodeDecodeError:
+            return
+        self.assertEqual(bool(made["fault"]), ended.returncode != 0, (folder, made["fault"], ended.stderr))
+        if ended.returncode:
+            self.assertEqual(made["fault"]["message"], ended.stderr.decode().rstrip("\n"), folder)
+            return
+        found[0] += 1
+        for name, table in made["tables"].items():
+            for row in table["rows"]:
+                reason = ask("why", table=name, row=row)
+                self.check_reason(reason, row, (folder, core, name, row))
+                found[1] += 1
+                found[2] += bool(reason["merges"])
+        for table in ask("sources")["tables"]:
+            for row in table["rows"]:
+                goes = ask("forward", table=table["name"], row=row["number"])
+                self.assertEqual(bool(goes["rows"]), row["why"] is None, (folder, table["name"], row))
+
+    def check_reason(self, reason: Any, row: list[str], which: object) -> None:
+        """A row has a rule and source rows; each text in it has a source, and each null has none."""
+        self.assertTrue(reason.get("asked"), (which, reason))
+        self.assertEqual([one["text"] for one in reason["cells"]], row)
+        for one in reason["cells"]:
+            is_null = one["text"][:1] == "?" and one["text"][1:2] != "?"
+            self.assertEqual(one["kind"] in ("open", "link"), is_null, (which, one))
+        for asked in reason["asked"]:
+            self.assertTrue(asked["matches"], which)
+
+    def test_a_drawing_runs_as_its_mapping(self) -> None:
+        folder = draw_trial.EXAMPLES / "flights"
+        ask = Asked(folder)
+        made = ask.live((folder / "drawing.clio").read_text(), is_drawing=True)
+        self.assertEqual(made["tables"]["leg"]["rows"], [["F1", "Frankfurt", "New York"], ["F2", "Frankfurt", "?0.1.1"],
+                                                         ["F3", "?0.0.2", "New York"]])
+        self.assertEqual([rule["words"]["lines"] for rule in made["rules"]], [[0], [1], [2]])
+        self.assertEqual({rule["rows"] for rule in made["rules"]}, {0})
+        reason = ask("why", table="leg", row=["F1", "Frankfurt", "New York"])
+        self.assertEqual([one["where"] for one in reason["cells"]],
+                         ["flight.csv line 2", "port.csv line 2", "port.csv line 3"])
+
+    def test_samples_keep_links(self) -> None:
+        folder = draw_trial.room()
+        table = [[f"x{number}", f"z{29999 - number}"] for number in range(30000)]
+        write(folder / "a.csv", [["x", "y"], *table])
+        write(folder / "b.csv", [["z", "w"], *[[f"z{n}", f"w{29999 - n:05}"] for n in range(30000)]])
+        ask = Asked(folder)
+        made = ask.live(TWO_FILES, rows=20)
+        self.assertEqual([made["sources"][name]["rows"] for name in "ab"], [20, 40])
+        self.assertEqual(made["sources"]["b"]["of"], 30000)
+        reason = ask("why", table="c", row=["x0", "w00000"])
+        self.assertEqual([row["where"] for row in reason["asked"][0]["matches"][0]],
+                         ["line 2 (record 1)", "line 30001 (record 30000)"])
+        text = TWO_FILES.replace("set c { u, v; }", "set c { u, v; key (u); }").replace("line a.x -> c.u",
+                                                                                       'line "same" -> c.u')
+        self.assertIn("b.csv, line 30001 (record 30000): ", "".join(ask.live(text, rows=20)["fault"]["lines"]))
+        (folder / "b.csv").write_text("z,w\n1,2,3\n" + "x" * 300000)
+        self.assertIn("width of record 1", ask.live(TWO_FILES, rows=20)["fault"]["message"])
+
+    def test_the_whole_source_is_read(self) -> None:
+        folder = draw_trial.room()
+        write(folder / "a.csv", [["x", "y"], *[[f"x{n}", f"z{n % 2999}"] for n in range(30000)]])
+        write(folder / "b.csv", [["z", "w"], *[[f"z{n}", f"w{n}"] for n in range(2999)]])
+        made = Asked(folder).live(TWO_FILES, rows=None)
+        self.assertEqual((made["tables"]["c"]["count"], made["whole"]), (30000 + 2999, True))
+        self.assertEqual({one["kind"] for one in made["sources"].values()}, {"whole"})
+
+    def test_tests_of_a_drawing_take_sets_of_their_own(self) -> None:
+        folder = draw_trial.room()
+        write(folder / "a.csv", [["x", "y"], *[[f"x{n}", "red" if n % 3 else ""] for n in range(30000)]])
+        text = ('mapping 1; source { set a { x, y; } } target { set c { u, v, w; key (u); } }\n'
+                'rows c from a;\nline a.x -> c.u;\nline "stop" -> c.v where y = "red";\nline a.y -> c.w where y filled;\n')
+        for rows in 10, None:
+            made = Asked(folder).live(text, rows=rows)
+            self.assertIsNone(made["fault"])
+            self.assertEqual(set(made["sources"]), {"a", "a_y_filled"})
+            shown = {row[0]: row[1:] for row in made["tables"]["c"]["rows"]}
+            self.assertEqual(shown["x1"], ["stop", "red"])
+            self.assertEqual([text[:1] for text in shown["x0"]], ["?", "?"])
+
+    def test_a_run_that_does_not_end_is_ended(self) -> None:
+        slow = draw_trial.room() / "clio"
+        slow.write_text(f'#!/bin/sh\nif [ "$1" = exchange ]; then exec sleep 60; fi\nexec {PROGRAM} "$@"\n')
+        slow.chmod(0o755)
+        folder = draw_trial.EXAMPLES / "teams"
+        with unittest.mock.patch.dict(os.environ, PATH=f"{slow.parent}{os.pathsep}{os.environ['PATH']}"):
+            made = Asked(folder, 1).live((folder / "mapping.clio").read_text(), True)
+        self.assertEqual((made["stopped"], made["tables"], len(made["rules"])),
+                         ("clio exchange --core took more than 1 seconds and was ended", None, 2))
+
+    def test_documents_are_sampled(self) -> None:
+        folder, example = draw_trial.room(), draw_trial.EXAMPLES / "warehouse"
+        for name in "mapping.clio", "product.csv":
+            (folder / name).write_bytes((example / name).read_bytes())
+        shops = json.loads((example / "shop.json").read_text())
+        text = json.dumps([shops[number % len(shops)] for number in range(3000)])
+        for member in "code", "no":
+            count = itertools.count()
+            text = re.sub(f'"{member}": "', lambda _, member=member, count=count: f'"{member}": "{next(count)}-', text)
+        (folder / "shop.json").write_text(text)
+        ask = Asked(folder)
+        made = ask.live((folder / "mapping.clio").read_text(), rows=50)
+        self.assertEqual((made["fault"], made["sources"]["shop"]),
+                         (None, {"file": "shop.json", "kind": "sample", "rows": 50, "of": 3000}))
+        for name, table in made["tables"].items():
+            for row in table["rows"]:
+                self.assertTrue(ask("why", table=name, row=row)["asked"], (name, row))
+
+    def test_rows_are_made_up(self) -> None:
+        ask = Asked(draw_trial.room())
+        made = ask.live((draw_trial.EXAMPLES / "teams" / "mapping.clio").read_text())
+        self.assertEqual(made["sources"]["emp"]["kind"], "made up")
+        self.assertEqual(made["tables"]["person"]["count"], 3)
+        made = ask.live((draw_trial.EXAMPLES / "warehouse" / "mapping.clio").read_text())
+        self.assertIsNotNone(made["tables"])
+
+    def test_faults_have_their_place(self) -> None:
+        sets = "mapping 1; source { set a { x; } } target { set b { y; } }"
+        for marked in (sets + " line a.<z> -> b.y;", "mapping 1; source { set a { x; key (<q>); } } target { }",
+                       "mapping 1; source { set a { x, <x>; } } target { set b { y; } }",
+                       "mapping 1; source { set a { x; } } target { set b { y; ref (y) -> <c> (y); } }",
+                       sets + " // \u00e4\U0001f600\nline a.x -> b.<q>;",
+                       sets + "rows b from a;\nline a.<z> -> b.y;", sets + "rows b from <c>;\nline a.x -> b.y;"):
+            start = marked.index("<")
+            end = start + re.search("[^<]*?(?<!-)>", marked[start:]).end() - 2  # type: ignore[union-attr]
+            text = marked[:start] + marked[start + 1:end + 1] + marked[end + 2:]
+            fault = Asked(draw_trial.room()).live(text)["fault"]
+            wide = text[:start].count("\U0001f600")  # two units of a browser's text
+            self.assertEqual(fault["at"], [start + wide, end + wide], (text, fault))
+        self.assertIsNone(place_of("clash: table a", b""))
+
+
+class Choices(unittest.TestCase):
+    def setUp(self) -> None:
+        self.addCleanup(os.chdir, os.getcwd())
+        self.folder = draw_trial.EXAMPLES / "flights"
+        self.text = (self.folder / "drawing.clio").read_text()
+
+    def test_each_way_has_a_row(self) -> None:
+        found = Asked(self.folder)("ways", text=self.text, source=["port", "city"], target=["leg", "no"])
+        self.assertTrue(found["noted"])
+        self.assertEqual([(one["from"], one["by"], one["sample"]["value"]) for one in found["choices"]],
+                         [("flight", "dep", "Frankfurt"), ("flight", "arr", "New York")])
+        self.assertEqual(found["choices"][0]["says"], "city of the port that dep leads to")
+
+    def test_without_notes_too(self) -> None:
+        text = "\n".join(line.partition(" by ")[0].rstrip(";") + ";" if line.startswith("line") else line
+                         for line in self.text.split("\n") if not line.startswith("rows"))
+        text = text[:text.index("line port")]
+        found = Asked(self.folder)("ways", text=text, source=["port", "city"], target=["leg", "a"])
+        self.assertEqual([(one["from"], one["by"]) for one in found["choices"]], [("flight", "dep"), ("flight", "arr")])
+        self.assertFalse(found["noted"])
+
+    def test_one_way_is_not_asked(self) -> None:
+        ask = Asked(self.folder)
+        self.assertEqual(ask("ways", text=self.text, source=["flight", "no"], target=["leg", "a"]), {"choices": []})
+        teams = (draw_trial.EXAMPLES / "teams" / "mapping.clio").read_text()
+        self.assertEqual(ask("ways", text=teams, source=["dept", "city"], target=["person", "phone"]), {"choices": []})
+
+
+def write(path: pathlib.Path, rows: list[list[str]]) -> None:
+    """A table's file."""
+    with open(path, "w", newline="", encoding="utf-8") as file:
+        csv.writer(file).writerows(rows)
+
+
+if __name__ == "__main__":
+    unittest.main()

@@ -1,0 +1,193 @@
+"""A live run: what clio makes of a text, on a sample of the source or on the whole of it."""
+import itertools
+import pathlib
+import re
+import shutil
+import time
+
+from ..csv import records
+from ..explain.joins import TooMany
+from ..explain.traps import Traps, switched_off
+from ..mapping.meaning import Mapping, read_mapping
+from ..mapping.rules import TooLarge, closed
+from ..mapping.rules import printed as printed_rule
+from . import faults
+from .meant import Meant, meant
+from .outline import Data
+from .reasons import Reasons, is_null
+from .running import Ended, Runner, Stopped
+from .sample import Report, Sampler
+from .words import in_words
+
+SHOWN = 100  # rows of each table that are passed on at once
+CELLS = 12_000  # so many cells are passed on at once of all tables
+
+
+class KnownTraps(Traps):
+    """The warnings of clio-explain on a mapping whose rules are known already."""
+
+    def __init__(self, mapping: Mapping, printed: list[str], written: Mapping) -> None:
+        # its base would read the text and ask clio for the rules once more
+        self.mapping, self.printed = mapping, printed
+        self.source, self.target, self.rules = mapping.source, mapping.target, mapping.rules
+        self.lines = written.lines
+        self.by_hand = set()
+        for rule in written.rules:
+            try:
+                self.by_hand.add(printed_rule(closed(rule, self.target), self.source, self.target))
+            except TooLarge:
+                pass
+
+
+class Live:
+    """The last run of a folder's text, in the current folder."""
+
+    def __init__(self, folder: pathlib.Path, runner: Runner) -> None:
+        self.folder, self.runner, self.sampler = folder, runner, Sampler(folder)
+        self.number = 0
+        self.content, self.core = b"", False
+        self.meant = Meant(b"")
+        self.mapping: Mapping | None = None
+        self.written: Mapping | None = None
+        self.printed: list[str] = []
+        self.report: Report = {}
+        self.reasons: Reasons | None = None
+        self.shown = SHOWN
+
+    def run(self, text: str, is_drawing: bool, core: bool, rows: int | None) -> Data:
+        """Runs `show` and `exchange` on a text, on so many rows of large files or on all."""
+        began = time.monotonic()
+        self.content, self.core = text.encode(), core
+        self.mapping = self.reasons = None
+        self.number += 1
+        made: Data = {"run": self.number, "rules": None, "fault": None, "stopped": None, "tables": None, "sources": {},
+                      "drawing": False, "remarks": [], "whole": rows is None}
+        self.meant = meant(self.content, is_drawing)
+        made["drawing"], made["remarks"] = self.meant.is_drawing, list(self.meant.remarks)
+        if self.meant.faults:
+            made["fault"] = faults.of_drawing(self.meant.faults, self.content)
+            return made
+        pathlib.Path("mapping.clio").write_bytes(self.meant.content)
+        shutil.rmtree("out", ignore_errors=True)
+        try:
+            if self._show(made):
+                self._exchange(made, rows)
+        except Stopped as why:
+            made["stopped"] = str(why)
+        made["seconds"] = time.monotonic() - began
+        return made
+
+    def _show(self, made: Data) -> bool:
+        """The rules of the text; or its fault."""
+        words = ["show", *self._mode()]
+        ended = self.runner.run(*words)
+        if ended.status != 0:
+            made["fault"] = self._fault(ended, words)
+            return False
+        lines = [line for line in ended.printed.split(b"\n") if line.startswith(b"rule ")]
+        self.printed = [line.decode() for line in lines]
+        content = self.meant.content
+        self.written = read_mapping(content)
+        self.mapping = read_mapping(content[:self.written.end_of_sets] + b"\n" + b"\n".join(lines))
+        self.mapping.conditions = self.written.conditions
+        self.mapping.lines = self.written.lines
+        made["rules"] = [self._rule(number) for number in range(len(lines))]
+        return True
+
+    def _mode(self) -> list[str]:
+        return ["--core"] if self.core else []
+
+    def _rule(self, number: int) -> Data:
+        """A rule in words; one of a drawing with the lines and the `rows` behind it."""
+        assert self.mapping is not None
+        rule, place = self.mapping.rules[number], number - self.meant.plain
+        behind = self.meant.behind[place] if 0 <= place < len(self.meant.behind) else None
+        words = in_words(rule, self.mapping, behind.lines if behind else [] if self.meant.is_drawing else None)
+        return {"text": self.printed[number], "words": words, "says": behind.says if behind else "",
+                "rows": behind.rows if behind else None,
+                "by_hand": not words["lines"] and behind is None and not number < self.meant.plain}
+
+    def _exchange(self, made: Data, rows: int | None) -> None:
+        """The rows of the target; or the fault of the run."""
+        assert self.mapping is not None
+        mapping, self.mapping = self.mapping, None
+        self.report = self.sampler.prepare(mapping, self.meant, rows)
+        made["sources"] = {name: one.as_data() for name, one in self.report.items() if one.kind != "test"}
+        words = ["exchange", *self._mode()]
+        ended = self.runner.run(*words)
+        if ended.status != 0:
+            made["fault"] = self._fault(ended, words)
+            return
+        self.mapping = mapping
+        counts = dict(re.findall(rb"^(\S+)\.csv ([0-9]+)$", ended.printed, re.MULTILINE))
+        columns = sum(len(table.columns) for table in mapping.target)
+        self.shown = max(5, min(SHOWN, CELLS // max(columns, 1)))
+        made["tables"] = {table.name: self.rows(table.name, 0) | {"count": int(counts[table.name.encode()])}
+                          for table in mapping.target}
+
+    def _fault(self, ended: Ended, words: list[str]) -> Data:
+        """A refusal; of a drawing it has no place, since clio speaks of the printed mapping."""
+        made = faults.of_clio(ended.status, ended.message, words, self.meant.content, self.report)
+        if self.meant.is_drawing:
+            made["at"] = None
+            if ended.message.startswith("mapping: "):
+                made["message"] = f"the mapping that the drawing means is refused: {ended.message}"
+        return made
+
+    def rows(self, name: str, start: int) -> Data:
+        """Some rows of a target table that was written; which of them hold nothing but nulls."""
+        entries = records(pathlib.Path("out", f"{name}.csv").read_bytes())
+        columns = next(entries)[1]
+        rows = [fields for _, fields in itertools.islice(entries, start, start + self.shown)]
+        empty = [start + place for place, fields in enumerate(rows) if fields and all(map(is_null, fields))]
+        return {"columns": columns, "rows": rows, "empty": empty}
+
+    def more(self, table: str, start: int) -> Data:
+        """More rows of a table."""
+        if self.mapping is None or table not in [one.name for one in self.mapping.target]:
+            return {"error": "there are no rows"}
+        return self.rows(table, start)
+
+    def warnings(self) -> Data:
+        """What clio-explain warns of: after the rows, since it takes longer than they do."""
+        if self.mapping is None or self.written is None:
+            return {"warnings": []}
+        off = switched_off(self.content)
+        traps = KnownTraps(self.mapping, self.printed, self.written)
+        found: list[Data] = []
+        try:
+            for one in itertools.chain(traps.of_mapping(), traps.of_data(self.core)):
+                if not off.intersection({(one.name, ""), (one.name, one.set)}):
+                    found.append({"name": one.name, "set": one.set,
+                                  "lines": [faults.in_whole_files(line, self.report) for line in one.lines]})
+        except (Exception, MemoryError) as error:  # pylint: disable=broad-except
+            found.append({"name": "", "set": "", "lines": [f"no more warnings ({type(error).__name__})"]})
+        return {"warnings": found}
+
+    # --- reasons -----------------------------------------------------------------------------------------------------
+
+    def known(self) -> Reasons | str:
+        """What knows the reasons of the last run, or why there is nothing."""
+        if self.mapping is None:
+            return "there is no target"
+        if self.reasons is None:
+            try:
+                self.reasons = Reasons(self.mapping, self.report)
+            except TooMany:
+                return "the rules have too many matches here: take fewer rows of each file"
+        return self.reasons
+
+    def why(self, table: str, row: list[str]) -> Data:
+        """Why a row is in the target."""
+        known = self.known()
+        return {"unknown": known} if isinstance(known, str) else known.of_row(table, row)
+
+    def sources(self) -> Data:
+        """The rows of the source with what became of them."""
+        known = self.known()
+        return {"error": known} if isinstance(known, str) else {"tables": known.source_tables(self.shown)}
+
+    def forward(self, table: str, row: int) -> Data:
+        """Which rows of the target a source row has part in."""
+        known = self.known()
+        return {"error": known} if isinstance(known, str) else known.of_source_row(table, row)

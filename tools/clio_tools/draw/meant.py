@@ -1,0 +1,82 @@
+"""The mapping that a text means: a mapping text is itself, and of a drawing it is what clio-rules prints."""
+from dataclasses import dataclass, field, replace
+
+from ..mapping import tree
+from ..mapping.meaning import Mapping, mapping_of_tree
+from ..mapping.places import Fault
+from ..program import Refused
+from ..rules.lines_alone import rules_without_notes
+from ..rules.model import Drawing
+from ..rules.printed import Printed
+from ..rules.saying import said
+from ..rules.ways import Wrong
+from ..rules.whole import Faulty, read, worked_out
+from .outline import Outline
+
+
+@dataclass(frozen=True)
+class Behind:
+    """What is behind a rule of a drawing: its lines by number, its words, and its `rows` by number."""
+
+    lines: list[int]
+    says: str
+    rows: int | None
+
+
+@dataclass(frozen=True)
+class Meant:
+    """The text for clio, the files that tests of a drawing take, and what is behind the first rules of a drawing."""
+
+    content: bytes
+    is_drawing: bool = False
+    files: dict[str, str] = field(default_factory=dict)
+    links: dict[str, str] = field(default_factory=dict)
+    plain: int = 0  # so many rules come of lines without notes, before those of the notes
+    behind: tuple[Behind, ...] = ()
+    remarks: tuple[str, ...] = ()
+    faults: tuple[Fault, ...] = ()
+
+
+def meant(content: bytes, is_drawing: bool) -> Meant:
+    """The mapping of a text; notes make it a drawing whatever its name is."""
+    outline = Outline(content)
+    if not outline.has_notes and not (is_drawing and outline.has_circles):
+        return Meant(content)
+    try:
+        drawing = worked_out(content)
+        made = Printed(drawing)
+        plain = len(rules_without_notes(drawing))
+    except Faulty as why:
+        return Meant(content, True, faults=tuple(why.faults))
+    except Wrong as why:
+        return Meant(content, True, faults=(why.fault,))
+    return Meant(made.text.encode(), True, made.sets.files(), made.sets.links(), plain, tuple(_behind(drawing)),
+                 tuple(drawing.remarks))
+
+
+def _behind(drawing: Drawing) -> list[Behind]:
+    """What is behind each rule that notes make."""
+    lines = {one.start: number for number, one in enumerate(drawing.tree.lines)}
+    rows = {one.start: number for number, one in enumerate(drawing.tree.rows)}
+
+    def number_of(note: tree.Rows | None) -> int | None:
+        return None if note is None else rows[note.start]
+
+    return [Behind([lines[line.start] for line in made.lines], said(drawing, made), number_of(made.rows.note))
+            for made in drawing.made]
+
+
+def bare(content: bytes) -> Mapping:
+    """The sets and lines of a text without its notes; a text that can't be read is Refused."""
+    drawing = _read(content)
+    items = [one for one in drawing.tree.items if isinstance(one, tree.Only)
+             or isinstance(one, tree.Rule) and one.is_plain
+             or isinstance(one, tree.Line) and all(each.column for each in one.arguments)]
+    return mapping_of_tree(replace(drawing.tree, items=tuple(items)))
+
+
+def _read(content: bytes) -> Drawing:
+    try:
+        return read(content)
+    except Faulty as why:
+        raise Refused(f"first mend the text: {why}") from None

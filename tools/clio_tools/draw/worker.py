@@ -1,0 +1,100 @@
+"""The process that runs clio and computes reasons: it works in a temporary folder, and can be ended at any time without
+loss. It reads one JSON text a line on standard input and answers with one. The folder with the text is only read."""
+import json
+import os
+import pathlib
+import signal
+import sys
+from collections.abc import Callable
+from typing import Any
+
+from ..picture.boxes import Box
+from ..picture.lines import edges_of
+from ..picture.ordering import ordered
+from ..program import Refused
+from .choices import choices
+from .live import Live
+from .meant import bare
+from .outline import Data
+from .proposals import Proposals
+from .running import Runner, Stopped
+
+SECONDS = 10.0  # a run of clio may take so long
+WHOLE_SECONDS = 300.0  # and one on the whole source
+MOST_PROPOSALS = 200
+
+
+class Stale(Exception):
+    """Something is asked of a run that is gone."""
+
+
+class Worker:
+    """Does the jobs of the page."""
+
+    def __init__(self, folder: str, room: str, seconds: float = SECONDS) -> None:
+        self.folder = pathlib.Path(folder)
+        os.chdir(room)
+        self.runner = Runner(seconds)
+        self.live = Live(self.folder, self.runner)
+        self.jobs: dict[str, Callable[..., Data]] = {
+            "live": self.live.run, "more": self.live.more, "warnings": self.live.warnings, "why": self.live.why,
+            "sources": self.live.sources, "forward": self.live.forward, "arrange": self.arrange,
+            "proposals": self.proposals, "ways": self.ways}
+
+    def answer(self, job: dict[str, Any]) -> Data:
+        """What a job gives; no failure ends this process."""
+        self.runner.is_overtaken = False
+        try:
+            if job.pop("run", self.live.number) != self.live.number:
+                raise Stale("these rows are of an earlier run: another page of this clio-draw has run since")
+            return self.jobs[job.pop("do")](**job)
+        except (Stopped, Stale) as why:
+            return {"error": str(why)}
+        except (Exception, MemoryError) as error:  # pylint: disable=broad-except
+            return {"error": f"{type(error).__name__}: {str(error)[:300]}"}
+
+    def proposals(self, text: str) -> Data:
+        """Lines that could be meant."""
+        try:
+            mapping = bare(text.encode())
+        except Refused as why:
+            return {"error": str(why)}
+        return {"proposals": Proposals(mapping, self.folder).made()[:MOST_PROPOSALS]}
+
+    def ways(self, text: str, source: list[str | None], target: list[str]) -> Data:
+        """The ways that a line could go, with a row of each."""
+        return choices(text, source, target, self.live.sampler)
+
+    @staticmethod
+    def arrange(text: str) -> Data:
+        """The sets of both sides in an order in which few lines cross: that of clio-picture."""
+        try:
+            mapping = bare(text.encode())
+        except Refused as why:
+            return {"error": str(why)}
+        sides = [[Box(tables, number, {}, {}) for number, table in enumerate(tables) if table.parent is None]
+                 for tables in (mapping.source, mapping.target)]
+        left, right = [[(box.number, box.ports()) for box in boxes] for boxes in sides]
+        found = ordered(left, right, edges_of(mapping.lines))
+        return {side: [tables[number].name for number, _ in boxes]
+                for side, tables, boxes in zip(("source", "target"), (mapping.source, mapping.target), found)}
+
+
+def main() -> None:
+    """Answers until standard input ends."""
+    signal.signal(signal.SIGINT, signal.SIG_IGN)  # the server ends this process
+    try:
+        worker = Worker(sys.argv[1], sys.argv[2], WHOLE_SECONDS if sys.argv[3] == "whole" else SECONDS)
+    except FileNotFoundError:  # the server has ended meanwhile, and took the folder away
+        return
+    signal.signal(signal.SIGUSR1, worker.runner.overtake)
+    signal.pthread_sigmask(signal.SIG_UNBLOCK, {signal.SIGUSR1})
+    answers = os.fdopen(os.dup(1), "w", encoding="utf-8")
+    os.dup2(2, 1)  # nothing else is printed among the answers
+    for line in sys.stdin:
+        answers.write(json.dumps(worker.answer(json.loads(line))) + "\n")
+        answers.flush()
+
+
+if __name__ == "__main__":
+    main()
