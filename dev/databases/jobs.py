@@ -1,7 +1,7 @@
 """The jobs on which clio-sql is measured: a mapping, the queries that make its source, and SQL by hand for the same.
 
-The SQL by hand orders by bytes, as the names of nulls ask. It makes its tables in the schema hand: for the first two
-jobs all that clio-sql makes, with nulls and fold, for the others the tables of the target alone.
+The SQL by hand orders by bytes, as the names of nulls ask. It makes all that clio-sql makes, with nulls and fold, in
+the schema hand.
 """
 from collections.abc import Callable
 from dataclasses import dataclass
@@ -89,28 +89,55 @@ def demo_source(rows: int) -> dict[str, str]:
             "phone": f"SELECT 'e' || 4 * i AS eid, '555-' || 4 * i AS num FROM {NUMBERS.format(rows // 5)}"}
 
 
-def demo_by_hand(names: str) -> str:
-    """The demo by hand, with the names for which a number is made up."""
-    return f"""
-CREATE UNLOGGED TABLE hand.u AS SELECT '?0.0.' || (row_number() OVER (ORDER BY dname{C}, city{C}) - 1) AS id,
- dname, city FROM (SELECT DISTINCT dname, city FROM source.dept) AS q;
+MATCHES_BY_HAND = f"""
+CREATE UNLOGGED TABLE hand.u AS SELECT row_number() OVER (ORDER BY dname{C}, city{C}) - 1 AS k, dname, city
+ FROM (SELECT DISTINCT dname, city FROM source.dept) AS q;
 CREATE UNLOGGED TABLE hand.e AS SELECT eid, name, dname, city,
  row_number() OVER (ORDER BY eid{C}, name{C}, dname{C}, city{C}) - 1 AS k
  FROM (SELECT DISTINCT eid, name, dname, city FROM source.emp JOIN source.dept USING (dname)) AS q;
-CREATE UNLOGGED TABLE hand.f AS SELECT DISTINCT num, eid, name FROM source.phone JOIN hand.e USING (eid);
+CREATE UNLOGGED TABLE hand.f AS SELECT eid, num, name, dname, city,
+ row_number() OVER (ORDER BY eid{C}, num{C}, name{C}, dname{C}, city{C}) - 1 AS j
+ FROM (SELECT DISTINCT eid, num, name, dname, city FROM source.phone JOIN hand.e USING (eid)) AS q;
 ANALYZE hand.e; ANALYZE hand.f;
-CREATE TABLE hand.unit AS SELECT id AS "#id", dname AS uname, city AS place FROM hand.u;
-CREATE TABLE hand.staff AS SELECT u.id AS "#up", e.eid AS sid, e.name AS sname, coalesce(f.num, '?1.1.' || k) AS phone
- FROM hand.e JOIN hand.u USING (dname) LEFT JOIN hand.f ON f.eid = e.eid;
-CREATE TABLE hand.number AS SELECT DISTINCT num, name AS who FROM hand.f
- UNION ALL SELECT '?2.0.' || place, name FROM (SELECT name, row_number() OVER (ORDER BY name{C}) - 1 AS place
- FROM (SELECT DISTINCT name FROM hand.e) AS q) AS q WHERE {names};
+CREATE UNLOGGED TABLE hand.n AS SELECT name, row_number() OVER (ORDER BY name{C}) - 1 AS p
+ FROM (SELECT DISTINCT name FROM hand.e) AS q;
+CREATE UNLOGGED TABLE hand.j AS SELECT e.*, f.num FROM hand.e LEFT JOIN hand.f ON f.eid = e.eid;
 """
 
 
-DEMO = Job("demo: three tables into nested sets with keys", DEMO_TEXT, demo_source, demo_by_hand("true"))
+def demo_by_hand(unit: str, exported: str, first: str, covered: str) -> str:
+    """The demo by hand: which table has the nulls of units, the columns from which they are, the head of their names,
+    and which nulls of names are covered."""
+    columns = exported.split(", ")
+    variables = ", ".join(f"'x{number}'" for number in range(len(columns)))
+    return f"""{MATCHES_BY_HAND}
+CREATE UNLOGGED TABLE hand.h AS SELECT DISTINCT ON (dname) '{first}' || k AS id, k, {exported} FROM ({unit}) AS q
+ ORDER BY dname, k;
+CREATE TABLE hand.unit AS SELECT id AS "#id", dname AS uname, city AS place FROM hand.h;
+CREATE TABLE hand.staff AS SELECT h.id AS "#up", eid AS sid, name AS sname, coalesce(num, '?1.1.' || j.k) AS phone
+ FROM hand.j JOIN (SELECT id, dname FROM hand.h) AS h USING (dname);
+CREATE UNLOGGED TABLE hand.c AS SELECT n.name, n.p, q.num FROM hand.n LEFT JOIN (SELECT name, min(num) AS num
+ FROM hand.f WHERE {covered} GROUP BY name) AS q USING (name);
+CREATE TABLE hand.number AS SELECT DISTINCT num, name AS who FROM hand.f
+ UNION ALL SELECT '?2.0.' || p, name FROM hand.c WHERE num IS NULL;
+CREATE TABLE hand.fold AS SELECT q.name AS "null", h.id AS value
+ FROM (SELECT '?0.0.' || k AS name, dname FROM hand.u UNION ALL SELECT '?1.0.' || k, dname FROM hand.e
+ UNION ALL SELECT '?3.0.' || j, dname FROM hand.f) AS q JOIN (SELECT id, dname FROM hand.h) AS h USING (dname)
+ WHERE q.name <> h.id
+ UNION ALL SELECT '?1.1.' || k, num FROM hand.j WHERE num IS NOT NULL
+ UNION ALL SELECT '?2.0.' || p, num FROM hand.c WHERE num IS NOT NULL;
+CREATE TABLE hand.nulls AS SELECT id AS "null", unnest(ARRAY[{variables}]) AS variable, unnest(ARRAY[{exported}]) AS value
+ FROM hand.h
+ UNION ALL SELECT '?1.1.' || k, unnest(ARRAY['x0','x1','x2','x3']), unnest(ARRAY[eid, name, dname, city]) FROM hand.j
+ WHERE num IS NULL
+ UNION ALL SELECT '?2.0.' || p, 'x1', name FROM hand.c WHERE num IS NULL;
+"""
+
+
+DEMO = Job("demo: three tables into nested sets with keys", DEMO_TEXT, demo_source,
+           demo_by_hand("SELECT * FROM hand.u", "dname, city", "?0.0.", "false"))
 DEMO_CORE = Job("core: the same in core mode", DEMO_TEXT, demo_source,
-                demo_by_hand("NOT EXISTS (SELECT * FROM hand.f WHERE f.name = q.name)"), core=True)
+                demo_by_hand("SELECT * FROM hand.e", "eid, name, dname, city", "?1.0.", "true"), core=True)
 IDS = Job("ids: made up for two tables under one key", """mapping 1;
 source { set a { id, x; } set b { id, y; } }
 target { set t { id, z; key (id); } }
@@ -121,6 +148,12 @@ CREATE UNLOGGED TABLE hand.r AS SELECT id, row_number() OVER (ORDER BY id{C}) - 
  FROM (SELECT DISTINCT id FROM source.a) AS q;
 CREATE UNLOGGED TABLE hand.s AS SELECT id, row_number() OVER (ORDER BY id{C}) - 1 AS l
  FROM (SELECT DISTINCT id FROM source.b) AS q;
-CREATE TABLE hand.t AS SELECT id, coalesce('?0.0.' || k, '?1.0.' || l) AS z FROM hand.r FULL JOIN hand.s USING (id);
+ANALYZE hand.r; ANALYZE hand.s;
+CREATE UNLOGGED TABLE hand.j AS SELECT id, k, l FROM hand.r FULL JOIN hand.s USING (id);
+CREATE TABLE hand.t AS SELECT id, coalesce('?0.0.' || k, '?1.0.' || l) AS z FROM hand.j;
+CREATE TABLE hand.fold AS SELECT '?1.0.' || l AS "null", '?0.0.' || k AS value FROM hand.j
+ WHERE k IS NOT NULL AND l IS NOT NULL;
+CREATE TABLE hand.nulls AS SELECT '?0.0.' || k AS "null", 'x0' AS variable, id AS value FROM hand.r
+ UNION ALL SELECT '?1.0.' || l, 'x0', id FROM hand.j WHERE k IS NULL;
 """)
 JOBS = [COPY, FUSION, DEMO, DEMO_CORE, IDS]
