@@ -109,6 +109,8 @@ class Answers:
 
     def live(self, text: str, name: str, core: bool, rows: int, whole: bool) -> Data:
         """What clio makes of a text: of large files on their first rows, or on the whole of them."""
+        if not whole:
+            self.helpers[True].overtake()  # its text is an old one now
         most = None if whole else max(1, min(rows, MOST_ROWS))
         return self.helpers[whole].ask(do="live", text=text, is_drawing=name == DRAWING, core=core, rows=most)
 

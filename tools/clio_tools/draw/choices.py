@@ -25,9 +25,10 @@ def choices(text: str, source: list[str | None], target: list[str], sampler: Sam
     by which refs the value. Nothing if there is one way."""
     try:
         made = edited(text, {"do": "add_line", "source": {"columns": [source]}, "target": target})[0]
+    except CannotEdit:  # the line is there, or the text has faults
+        made = text
+    try:
         drawing, mapping = read(made.encode()), bare(text.encode())
-    except CannotEdit as why:
-        return {"error": str(why)}
     except (Faulty, Refused):
         return {"choices": []}
     noted = list(dict.fromkeys(one.source.text for one in drawing.tree.rows if one.target.text == target[0]))

@@ -26,11 +26,13 @@ def line_at(change: Change, index: int) -> tree.Line:
 
 # --- lines -----------------------------------------------------------------------------------------------------------
 
-def add_line(change: Change, source: Asked, target: list[object], rows: str | None = None) -> None:
+def add_line(change: Change, source: Asked, target: list[object], rows: str | None = None,
+             of: str | None = None) -> None:
     """A new line, behind the last one into the same set, or behind the last one, or else behind both sides; `rows`
-    names the set of which each row of the target set shall come, if the text doesn't say it yet."""
+    names the set of which each row of the target set shall come, if the text doesn't say it yet, and `of` the set for
+    the rows of which alone the line is."""
     left, place = spelling.left_of(source), spelling.place(target)
-    made = _line(left.written, place, left.behind)
+    made = f"line {left.written} -> {place}{_notes(left.behind, spelling.word(of) if of else '', '')};"
     lines, name = change.parts.lines, str(target[0])
     if any(change.content[one.start:one.end].split() == made.encode().split() for one in lines):
         raise CannotEdit("this line is there")
@@ -53,8 +55,9 @@ def add_line(change: Change, source: Asked, target: list[object], rows: str | No
         change.shown = (change.shown[1] - len(made.encode()), change.shown[1])
 
 
-def _line(left: str, target: str, by: str) -> str:
-    return f"line {left} -> {target}{f' by {by}' if by else ''};"
+def _notes(by: str, of: str, where: str) -> str:
+    """What is behind a line's target."""
+    return (f" by {by}" if by else "") + (f" from {of}" if of else "") + (f" where {where}" if where else "")
 
 
 def change_line(change: Change, index: int, source: Asked) -> None:
@@ -80,8 +83,7 @@ def change_notes(change: Change, index: int, of: str, where: str) -> None:
 
 def _set_notes(change: Change, one: tree.Line, by: str, of: str, where: str) -> None:
     """What is between a line's target and its end."""
-    notes = (f" by {by}" if by else "") + (f" from {of}" if of else "") + (f" where {where}" if where else "")
-    change.swap(one.target.end, change.tokens_in(one)[-1].start, notes)
+    change.swap(one.target.end, change.tokens_in(one)[-1].start, _notes(by, of, where))
 
 
 def _tests(change: Change, one: tree.Line | tree.Rows) -> str:
@@ -184,7 +186,7 @@ def change_rule(change: Change, index: int, text: str) -> None:
 
 Edit = Callable[..., None]
 ACTIONS: dict[str, tuple[Edit, dict[str, type]]] = {
-    "add_line": (add_line, {"source": dict, "target": list, "rows": str}),
+    "add_line": (add_line, {"source": dict, "target": list, "rows": str, "of": str}),
     "change_line": (change_line, {"index": int, "source": dict}),
     "change_notes": (change_notes, {"index": int, "of": str, "where": str}),
     "delete": (delete, {"kind": str, "index": int}),
@@ -196,7 +198,7 @@ ACTIONS: dict[str, tuple[Edit, dict[str, type]]] = {
     "change_rule": (change_rule, {"index": int, "text": str}),
     **schema_edits.ACTIONS,
 }
-OPTIONAL = {"rows"}
+OPTIONAL = {"rows", "of"}
 
 
 def edited(text: str, action: Asked) -> tuple[str, tuple[int, int]]:

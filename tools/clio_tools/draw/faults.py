@@ -6,7 +6,8 @@ from ..explain.endings import explained
 from ..explain.placed import token_length
 from ..mapping.meaning import Unread, read_mapping
 from ..mapping.places import Fault, Text
-from .outline import Data
+from .cures import of_fault
+from .outline import Data, Outline
 from .sample import Report
 from .units import Units
 
@@ -69,20 +70,8 @@ def _explained(status: int, message: str, words: list[str], report: Report) -> I
 
 
 def of_drawing(faults: tuple[Fault, ...], content: bytes) -> Data:
-    """The faults of a drawing: the first with its place, the others in lines below it."""
+    """The faults of a drawing: the first with its place and its cures, the others in lines below it."""
     text, at, first = Text(content), Units(content), faults[0]
     lines = [f"line {text.place(one.start).line}: {one.said}" for one in faults[1:]]
-    return {"status": 2, "message": first.said, "at": at.span(first.start, max(first.end, first.start)),
-            "line": text.place(first.start).line, "lines": lines[:SHOWN], "ways": _ways(first, content, at)}
-
-
-WAYS = re.compile(r"several ways lead from (\w+) to (\w+) for [\w.]+: say which, (.*)")
-
-
-def _ways(fault: Fault, content: bytes, at: Units) -> list[Data]:
-    """The edits that answer a refusal that asks for a way: the page offers each as a button."""
-    found = WAYS.fullmatch(fault.said)
-    if not found:
-        return []
-    ways = re.findall(r"by ((?:\([\w, ]+\)|\w+)(?:\.(?:\([\w, ]+\)|\w+))*)", found[3])
-    return [{"by": way, "at": at.span(fault.start, fault.end)} for way in ways]
+    return {"status": 2, "message": first.said, "at": at.span(first.start, first.end),
+            "line": text.place(first.start).line, "lines": lines[:SHOWN], "cures": of_fault(first, Outline(content))}

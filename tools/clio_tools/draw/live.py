@@ -12,8 +12,10 @@ from ..mapping.meaning import Mapping, read_mapping
 from ..mapping.rules import TooLarge, closed
 from ..mapping.rules import printed as printed_rule
 from . import faults
+from .clashing import rows_of_clash
+from .cures import of_warning
 from .meant import Meant, meant
-from .outline import Data
+from .outline import Data, Outline
 from .reasons import Reasons, is_null
 from .running import Ended, Runner, Stopped
 from .sample import Report, Sampler
@@ -116,7 +118,10 @@ class Live:
         words = ["exchange", *self._mode()]
         ended = self.runner.run(*words)
         if ended.status != 0:
-            made["fault"] = self._fault(ended, words)
+            fault = self._fault(ended, words)
+            if ended.message.startswith("clash: "):
+                fault["clash"] = rows_of_clash(mapping, self.printed, ended.message, self.report)
+            made["fault"] = fault
             return
         self.mapping = mapping
         counts = dict(re.findall(rb"^(\S+)\.csv ([0-9]+)$", ended.printed, re.MULTILINE))
@@ -154,14 +159,16 @@ class Live:
             return {"warnings": []}
         off = switched_off(self.content)
         traps = KnownTraps(self.mapping, self.printed, self.written)
+        outline = Outline(self.content)
         found: list[Data] = []
         try:
             for one in itertools.chain(traps.of_mapping(), traps.of_data(self.core)):
                 if not off.intersection({(one.name, ""), (one.name, one.set)}):
                     found.append({"name": one.name, "set": one.set,
-                                  "lines": [faults.in_whole_files(line, self.report) for line in one.lines]})
+                                  "lines": [faults.in_whole_files(line, self.report) for line in one.lines],
+                                  "cures": of_warning(one.name, one.set, one.lines[0], outline)})
         except (Exception, MemoryError) as error:  # pylint: disable=broad-except
-            found.append({"name": "", "set": "", "lines": [f"no more warnings ({type(error).__name__})"]})
+            found.append({"name": "", "set": "", "cures": [], "lines": [f"no more warnings ({type(error).__name__})"]})
         return {"warnings": found}
 
     # --- reasons -----------------------------------------------------------------------------------------------------

@@ -9,11 +9,12 @@ from ..csv import read_table
 from ..explain.joins import Matches
 from ..explain.key_chase import Canonical, KeyChase, cell_value
 from ..explain.said import shown
-from ..explain.source import Source, file_of
+from ..explain.source import Source
 from ..mapping.meaning import Mapping
 from ..mapping.rules import Rule
 from ..mapping.tables import Link
 from .outline import Data
+from .places import placed_row
 from .sample import Report
 from .words import in_words
 
@@ -138,18 +139,7 @@ class Reasons:
 
     def source_row(self, number: int, row: int) -> Data:
         """A source row with its place in the whole file."""
-        table, place = self.source.tables[number], self.source.rows[number].place(row)
-        root = self.source.root(number)
-        taken = self.report[root.name]
-        if isinstance(place, str):
-            first, _, rest = place[1:].partition("/")
-            where = taken.places[int(first)] + ("/" + rest if rest else "") if taken.places else place
-        else:
-            where = taken.places[place[0] - 1] if taken.places else f"line {place[1]} (record {place[0]})"
-        cells = [[name, text] for name, text in zip(table.columns, self.source.rows[number].rows[row])
-                 if not name.startswith("#")]
-        return {"set": table.name, "file": taken.file if taken.kind != "made up" else file_of(root), "where": where,
-                "made_up": taken.kind == "made up", "cells": cells}
+        return placed_row(self.source, self.report, number, row)
 
     def merges(self, table: int, places: list[int]) -> list[Data]:
         """Why values took the places of the nulls in these rows, one step after the other."""

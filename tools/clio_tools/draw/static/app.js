@@ -3,34 +3,45 @@ import { ask } from "./api.js";
 import { byId, counted, later, say } from "./dom.js";
 import { drawCurves, drawnCounts, stretch } from "./curves.js";
 import { showInspector } from "./inspector.js";
-import { because, edit, loadTheirs, model, on, open, redo, save, select, setLive, undo } from "./model.js";
+import { because, edit, isWhole, leftOf, loadTheirs, model, nameOf, on, open, redo, save, select, setLive, setNamed, undo } from "./model.js";
 import * as results from "./results.js";
 import * as textpane from "./textpane.js";
-import { arrange, drawTrees, focusRow, foldAll, keyOf, liveTrees, markRows, show, sides, toggle } from "./trees.js";
+import { connect } from "./ways.js";
+import { arrange, drawTrees, focusRow, foldAll, liveTrees, markRows, show as showRow, sides, toggle } from "./trees.js";
 
 let waiting = false;
 const curves = () => { if (!waiting) { waiting = true; requestAnimationFrame(() => { waiting = false; drawCurves(); }); } };
 const redraw = () => { drawTrees(); markRows(); curves(); };
 
-// The live run: one at a time, the last text always.
-let running = false, again = false;
+// The live run of the last text: on the first rows of large files, and then on the whole of them. It ends those before it.
+let runs = 0;
 async function run() {
-  if (running) { again = true; return; }
-  running = true;
-  const text = model.text, began = performance.now();
+  const number = ++runs, text = model.text, began = performance.now();
+  const asked = { text, name: model.name, core: byId("core").checked, rows: Number(byId("rows").value) };
   byId("results").setAttribute("aria-busy", "true");
-  const live = await ask("live", { text, name: model.name, core: byId("core").checked, rows: Number(byId("rows").value), whole: false });
-  running = false;
-  byId("results").removeAttribute("aria-busy");
-  if (again) { again = false; run(); if (text !== model.text) return; }
-  if (live.error) { setLive({ rules: null, fault: { message: live.error, lines: [], at: null }, stopped: null, tables: null, sources: {} }, text); say(live.error); return; }
+  let live = await ask("live", { ...asked, whole: false });
+  if (number !== runs) return;
   model.liveMs = performance.now() - began;
+  byId("results").removeAttribute("aria-busy");
+  show({ ...live, core: asked.core }, text);
+  if (!live.tables || isWhole(live)) return;
+  byId("whole").textContent = "the whole source is being read";
+  live = await ask("live", { ...asked, whole: true });
+  if (number !== runs) return;
+  byId("whole").textContent = "";
+  if (live.error || live.stopped) say(`not the whole source: ${live.error ?? live.stopped}`);
+  else show({ ...live, core: asked.core }, text);
+}
+
+function show(live, text) {
+  byId("whole").textContent = "";
+  if (live.error) { setLive({ rules: null, fault: { message: live.error, lines: [], at: null }, stopped: null, tables: null, sources: {}, core: live.core }, text); say(live.error); return; }
   setLive(live, text);
   if (live.fault) say(`fault: ${live.fault.message.slice(0, 120)}`);
   else if (live.stopped) say(live.stopped);
   else if (live.tables) {
     const rows = Object.values(live.tables).reduce((sum, one) => sum + one.count, 0);
-    say(`${counted(live.rules.length, "rule")}, ${counted(rows, "target row")}, ${Math.round(model.liveMs)} ms`);
+    say(`${counted(live.rules.length, "rule")}, ${counted(rows, "target row")}${live.whole ? " of the whole source" : ""}, ${Math.round(model.liveMs)} ms`);
   }
 }
 const live = later(200, run);
@@ -65,19 +76,20 @@ async function trySave() {
   if (made.changed) byId("conflict").showModal();
 }
 
-// Drawing a line: from a source column to a target column.
-function connect(from, set, column) {
+// Drawing a line: from a source column, or from a whole set if the target column has a ref, to a target column.
+function draw(from, target) {
   model.picked = null;
-  const name = `${from.join(".")} to ${set}.${column}`;
-  return edit({ do: "add_line", source: { columns: [from] }, target: [set, column] }, `line drawn: ${name}`);
+  const isRef = setNamed("target", target[0])?.refs.some((ref) => ref.own.includes(target[1]));
+  if (from[1] === null && !isRef) { say(`a line from a whole set goes to a column with a ref: take a column of ${from[0]}`); return false; }
+  return connect(from, target);
 }
 
 function choose(side, set, column) {
   if (model.pairing !== null && side === "source") {
-    const index = model.pairing, first = model.outline.lines[index].columns[0];
+    const index = model.pairing, line = model.outline.lines[index];
     model.pairing = null;
-    edit({ do: "change_line", index, source: { conversion: "pair", columns: [first, [set, column]] } }, `pair with ${set}.${column}`);
-  } else if (model.picked && side === "target") connect(model.picked, set, column);
+    edit({ do: "change_line", index, source: leftOf(line, { conversion: "pair", columns: [line.columns[0], [set, column]], by: [line.by[0], ""] }) }, `pair with ${set}.${column}`);
+  } else if (model.picked && side === "target") draw(model.picked, [set, column]);
   else select({ kind: "column", side, set, column });
 }
 
@@ -89,9 +101,9 @@ function startPointer() {
   const under = (event) => document.elementFromPoint(event.clientX, event.clientY)?.closest?.(`#${otherSide(drag.side)} .row`) ?? null;
   for (const side of ["source", "target"]) {
     byId(side).addEventListener("pointerdown", (event) => {
-      const row = event.target.closest(".row.column");
+      const row = event.target.closest(side === "source" ? ".row" : ".row.column");
       if (!row || event.button !== 0 || event.target.closest("button")) return;
-      drag = { side, column: [row.dataset.set, row.dataset.column], x: event.clientX, y: event.clientY, moved: false, over: null, event };
+      drag = { side, column: [row.dataset.set, row.dataset.column ?? null], x: event.clientX, y: event.clientY, moved: false, over: null, event };
     });
   }
   addEventListener("pointermove", (event) => {
@@ -131,10 +143,10 @@ function startPointer() {
     one.over?.classList.remove("drop");
     diagram.classList.remove("dragging");
     if (!done || !one.moved) return;
-    if (row?.dataset.column) {
-      const other = [row.dataset.set, row.dataset.column];
-      if (one.side === "source") connect(one.column, ...other); else connect(other, ...one.column);
-    } else say(`no ${otherSide(one.side)} column there`);
+    const other = row && [row.dataset.set, row.dataset.column ?? null];
+    if (other && one.side === "target") draw(other, one.column);
+    else if (other && other[1] !== null) draw(one.column, other);
+    else say(`no ${otherSide(one.side)} column there`);
     const swallow = (click) => click.stopPropagation(); // the click that a browser may make of this pointer's way
     addEventListener("click", swallow, { capture: true });
     setTimeout(() => removeEventListener("click", swallow, { capture: true }), 0);
@@ -147,8 +159,9 @@ function startPointer() {
       if (!row) { select(null); return; }
       sides[side].rows.forEach((one) => { one.tabIndex = one === row ? 0 : -1; });
       row.focus({ preventScroll: true });
-      const ref = event.target.closest("[data-ref]"), text = event.target.closest("[data-line]");
-      if (ref) select({ kind: "ref", side, set: row.dataset.set, index: Number(ref.dataset.ref) });
+      const ref = event.target.closest("[data-ref]"), text = event.target.closest("[data-line]"), menu = event.target.closest("[data-menu]");
+      if (menu) select({ kind: "set", side, set: row.dataset.set });
+      else if (ref) select({ kind: "ref", side, set: row.dataset.set, index: Number(ref.dataset.ref) });
       else if (text) select({ kind: "line", index: Number(text.dataset.line) });
       else if (row.dataset.column) choose(side, row.dataset.set, row.dataset.column);
       else { toggle(side, row.dataset.set); redraw(); }
@@ -156,9 +169,8 @@ function startPointer() {
     byId(side).addEventListener("dblclick", (event) => {
       const ref = event.target.closest("[data-ref]"), row = event.target.closest(".row");
       if (!ref) return;
-      const all = (trees) => trees.flatMap((tree) => [tree, ...all(tree.inner)]);
-      const found = all(model.outline[side]).find((tree) => tree.name === row.dataset.set).refs[Number(ref.dataset.ref)];
-      show(side, found.set, found.referred[0])?.focus();
+      const found = setNamed(side, row.dataset.set).refs[Number(ref.dataset.ref)];
+      showRow(side, found.set, found.referred[0])?.focus();
       curves();
     });
     byId(side).addEventListener("scroll", curves, { passive: true });
@@ -169,7 +181,7 @@ function startPointer() {
   }
   byId("curves").addEventListener("click", (event) => {
     const group = event.target.closest("[data-line]"), bundle = event.target.closest("[data-sets]");
-    if (bundle) { const [from, to] = bundle.dataset.sets.split(">"); toggle("source", from, true); toggle("target", to, true); redraw(); show("source", from); show("target", to); curves(); return; }
+    if (bundle) { const [from, to] = bundle.dataset.sets.split(">"); toggle("source", from, true); toggle("target", to, true); redraw(); showRow("source", from); showRow("target", to); curves(); return; }
     select(group ? { kind: "line", index: Number(group.dataset.line) } : null);
   });
 }
@@ -178,7 +190,6 @@ function treeKey(side, event) {
   const row = event.target.closest(".row");
   if (!row || event.ctrlKey || event.metaKey || event.altKey) return;
   const rows = sides[side].rows, place = rows.indexOf(row), set = row.dataset.set, column = row.dataset.column;
-  const other = side === "source" ? "target" : "source";
   const act = {
     ArrowDown: () => focusRow(side, place + 1), ArrowUp: () => focusRow(side, place - 1), Home: () => focusRow(side, 0), End: () => focusRow(side, rows.length - 1),
     PageDown: () => focusRow(side, place + 15), PageUp: () => focusRow(side, place - 15),
@@ -194,7 +205,6 @@ function treeKey(side, event) {
     if (next) focusRow(side, rows.indexOf(next));
   }
   function nearest(name) { const box = byId(name); return Math.max(0, sides[name].rows.findIndex((one) => one.tabIndex === 0 || one.offsetTop >= box.scrollTop)); }
-  void other;
 }
 
 function pick(side, set, column) {
@@ -213,7 +223,7 @@ function removeAt(side, set, column) {
   if (one?.kind === "line") edit({ do: "delete", kind: "line", index: one.index }, "line deleted");
   else if (column) {
     const name = keyOf(set, column);
-    const found = model.outline.lines.map((line, index) => [line, index]).filter(([line]) => (side === "source" ? line.columns : [line.target]).some((end) => keyOf(...end) === name));
+    const found = model.outline.lines.map((line, index) => [line, index]).filter(([line]) => (side === "source" ? line.columns : [line.target]).some((end) => nameOf(end) === name));
     if (found.length === 1) edit({ do: "delete", kind: "line", index: found[0][1] }, "line deleted");
     else say(found.length ? "several lines end here: select one of them first" : "no line ends here");
   }

@@ -70,7 +70,8 @@ export function drawCurves() {
       group.dataset.line = index;
       group.classList.toggle("selected", index === chosen);
       group.classList.toggle("because", model.because.has(index));
-      if (line.conversion) group.append(s("text", { x: frame.width * .5, y: (from.y + to.y) / 2 - 4, "text-anchor": "middle" }, line.conversion));
+      const way = line.by[line.columns.indexOf(column)], label = [line.conversion, way && `by ${way}`].filter(Boolean).join(" ");
+      if (label) group.append(s("text", { x: frame.width - 10, y: to.y - 4, "text-anchor": "end" }, label));
       if (index === chosen || model.because.has(index)) made.push(group); else made.unshift(group);
     }
     drawn += any;

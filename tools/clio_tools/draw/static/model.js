@@ -16,6 +16,7 @@ export const model = {
   pairing: null, // a line that waits for its second column
   because: new Set(), becauseRule: null, ghost: null,
   live: null, liveText: null, shown: null,
+  base: new Map(), // the numbers of rows of the text that was saved last, for each kind of run
 };
 
 let queue = Promise.resolve();
@@ -116,6 +117,7 @@ export async function save(over = null) {
     const isNew = made.name !== model.name;
     Object.assign(model, { digest: made.digest, name: made.name, saved: text });
     say(isNew ? `saved as ${made.name}, since it has notes` : "saved");
+    keepBase();
     tell("saved");
   }
   else if (made.error) say(`not saved: ${made.error}`);
@@ -151,14 +153,46 @@ export function ghost(proposal) {
 
 export function setLive(live, text) {
   model.live = live; model.liveText = text;
+  keepBase();
   tell("live");
 }
 
+// Whether a run has read all rows of the source.
+export const isWhole = (live) => live.whole || !Object.values(live.sources).some((one) => one.kind === "sample");
+const kindOf = (live) => `${live.core} ${isWhole(live)}`;
+
+function keepBase() {
+  const live = model.live;
+  if (live?.tables && model.liveText === model.saved) model.base.set(kindOf(live), Object.fromEntries(Object.entries(live.tables).map(([name, one]) => [name, one.count])));
+}
+
+// How many rows more or fewer a table has than with the text that was saved last.
+export function change(name) {
+  const base = model.live?.tables && model.base.get(kindOf(model.live)), now = model.live?.tables?.[name]?.count;
+  if (!base || now === undefined) return "";
+  const more = now - (base[name] ?? 0);
+  return more ? ` (${more > 0 ? "+" : "−"}${Math.abs(more).toLocaleString("en")})` : "";
+}
+
+export const nameOf = ([set, column]) => (column === null ? set : `${set}.${column}`);
+
 export const lineText = (line) => {
-  const columns = line.columns.map((column) => column.join("."));
+  const columns = line.columns.map((column, place) => nameOf(column) + (line.conversion && line.by[place] ? ` by ${line.by[place]}` : ""));
   const left = line.literal !== null ? JSON.stringify(line.literal) : line.conversion ? `${line.conversion}(${columns.join(", ")})` : columns[0];
-  return `${left} → ${line.target.join(".")}`;
+  const notes = [!line.conversion && line.by[0] && `by ${line.by[0]}`, line.from && `from ${line.from}`, line.where && `where ${line.where}`].filter(Boolean);
+  return [`${left} → ${line.target.join(".")}`, ...notes].join(" ");
 };
+
+// The left side of a line as an edit takes it, with changes.
+export const leftOf = (line, changes = {}) => (line.literal !== null ? { literal: line.literal } : { columns: line.columns, by: line.by, conversion: line.conversion, ...changes });
+
+export function setNamed(side, name) {
+  for (const [tree] of setsOf(model.outline?.[side])) if (tree.name === name) return tree;
+  return null;
+}
+
+// The `rows` statements of a target set, each with its number in the text.
+export const rowsOf = (set) => (model.outline?.rows ?? []).map((one, index) => ({ ...one, index })).filter((one) => one.target === set);
 
 export function* setsOf(trees, level = 1) {
   for (const tree of trees ?? []) { yield [tree, level]; yield* setsOf(tree.inner, level + 1); }

@@ -1,8 +1,9 @@
 // What the mapping does: the rows of the target with the reasons of each, the rules in words, warnings, lines, proposals, and rules by hand.
 import { ask } from "./api.js";
 import { byId, counted, fill, h, say } from "./dom.js";
-import { because, edit, ghost, lineText, model, select } from "./model.js";
+import { because, change, edit, ghost, lineText, model, select } from "./model.js";
 import { show } from "./trees.js";
+import { connect } from "./ways.js";
 
 const TABS = [["rows", "Target rows"], ["sources", "Source rows"], ["rules", "Rules"], ["warnings", "Warnings"], ["lines", "Lines"], ["proposals", "Proposals"], ["hand", "Rules by hand"]];
 const panels = {}, buttons = {};
@@ -134,7 +135,7 @@ function showRows(live) {
   const names = Object.keys(live.tables), next = new Map(), note = sourceNote(live);
   let isNew = note !== shownSources || names.join() !== [...shown.keys()].join();
   for (const name of names) {
-    const json = JSON.stringify(live.tables[name]), old = shown.get(name);
+    const json = JSON.stringify([live.tables[name], change(name)]), old = shown.get(name);
     if (old?.json === json) next.set(name, old);
     else { isNew = true; next.set(name, { json, section: tableOf(name, live.tables[name], names.length > EAGER) }); }
   }
@@ -148,7 +149,7 @@ function showRows(live) {
 }
 
 function tableOf(name, table, isLazy) {
-  const section = h("section", { class: "target-table", "aria-label": `${name}, ${counted(table.count, "row")}`, "data-table": name }, h("h3", {}, name, h("span", {}, ` ${counted(table.count, "row")}`)));
+  const section = h("section", { class: "target-table", "aria-label": `${name}, ${counted(table.count, "row")}`, "data-table": name }, h("h3", {}, name, h("span", {}, ` ${counted(table.count, "row")}${change(name)}`)));
   section.make = () => { section.style.minHeight = ""; section.append(...rowsOf(name, table)); };
   if (isLazy && table.count) { section.style.flexBasis = "100%"; section.style.minHeight = `${Math.min(table.rows.length + 1, 13) * 24 + 24}px`; watcher.observe(section); } else section.make();
   return section;
@@ -156,20 +157,22 @@ function tableOf(name, table, isLazy) {
 
 function rowsOf(name, table) {
   if (!table.count) return [h("p", { class: "empty" }, "no rows")];
-  const body = h("tbody", {}, table.rows.map((row) => rowOf(name, row)));
+  const rowsFrom = ({ rows, empty }, start) => rows.map((row, place) => rowOf(name, row, empty.includes(start + place)));
+  const body = h("tbody", {}, rowsFrom(table, 0));
   const more = h("button", { onclick: async () => {
     const next = await ask("more", { whole: kept.whole, run: kept.run, table: name, start: body.children.length });
     if (next.error) { say(next.error); return; }
-    body.append(...next.rows.map((row) => rowOf(name, row)));
+    body.append(...rowsFrom(next, body.children.length));
     if (body.children.length >= table.count) more.remove(); else more.textContent = counted(table.count - body.children.length, "more row");
   } }, counted(table.count - table.rows.length, "more row"));
   return [h("div", { class: "scroll" }, h("table", {}, h("thead", {}, h("tr", {}, h("th", {}, h("span", { class: "hidden" }, "why")), table.columns.map((column) => h("th", { scope: "col" }, column)))), body)),
     ...(table.rows.length < table.count ? [more] : [])];
 }
 
-function rowOf(name, row) {
+// A row of nothing but nulls is red: a click says which rule made it, and its lines.
+function rowOf(name, row, isEmpty) {
   const asked = () => why(name, row, made);
-  const made = h("tr", { onclick: asked },
+  const made = h("tr", { onclick: asked, class: isEmpty ? "nothing" : "", title: isEmpty ? "nothing is known of this row" : null },
     h("td", { class: "why-cell" }, h("button", { "aria-label": `Why is this row in ${name}: ${row.join(", ").slice(0, 80)}`, title: "Why is this row here?", onclick: (event) => { event.stopPropagation(); asked(); } }, "?")),
     row.map((text) => h("td", { title: text.length > 30 ? text : null }, cell(text))));
   return made;
@@ -214,7 +217,7 @@ function askedBy(one) {
     one.matches.map((match, place) => [place > 0 && h("p", { class: "empty" }, "and from"), match.map(sourceRow)]));
 }
 
-const sourceRow = (row) => h("div", { class: "source-row" }, h("span", { class: "where" }, `${row.made_up ? "made-up " : ""}${row.set}, ${row.file} ${row.where}: `),
+export const sourceRow = (row) => h("div", { class: "source-row" }, h("span", { class: "where" }, `${row.made_up ? "made-up " : ""}${row.set}, ${row.file} ${row.where}: `),
   row.cells.flatMap(([name, text], place) => [place ? ", " : "", name, " = ", text === "" ? h("span", { class: "empty" }, "empty") : h("b", {}, text)]));
 
 function stepOf(step) {
@@ -251,9 +254,13 @@ function ruleCard(rule, number) {
 
 const says2 = (kind, says) => ({ is: h("span", {}, " = ", h("code", {}, says)), text: h("span", {}, " = ", h("code", {}, JSON.stringify(says))), link: h("span", { class: "join" }, ` = ${says} (one unknown value that links them)`), open: h("span", { class: "open" }, " is left open") }[kind]);
 
+// The edits that answer a fault or a warning.
+export const cureButtons = (cures) => (cures ?? []).map((one) => h("button", { class: "cure", onclick: () => edit(one.action, one.title) }, one.title));
+
 function showWarnings(live, list) {
+  list = [...(live.remarks ?? []).map((said) => ({ lines: [said] })), ...list];
   title("warnings", list.length);
-  fill(panels.warnings, ...(list.length ? list.map((one) => h("div", { class: "warning" }, one.lines.map((line) => h("p", { class: line.startsWith("   ") ? "more" : "" }, line.trim())))) : [h("p", { class: "empty" }, live.fault ? "None while there is a fault." : "None.")]));
+  fill(panels.warnings, ...(list.length ? list.map((one) => h("div", { class: "warning" }, one.lines.map((line) => h("p", { class: line.startsWith("   ") ? "more" : "" }, line.trim())), cureButtons(one.cures))) : [h("p", { class: "empty" }, live.fault ? "None while there is a fault." : "None.")]));
 }
 
 // All lines as a list, for the keyboard and for screen readers.
@@ -264,7 +271,7 @@ export function showLines() {
   title("lines", model.outline.lines.length);
   if (panels.lines.hidden) return;
   fill(panels.lines, model.outline.lines.length ? h("ul", { class: "list" }, model.outline.lines.map((line, index) => {
-    const isThere = line.columns.every(([set, column]) => source.get(set)?.has(column)) && target.get(line.target[0])?.has(line.target[1]);
+    const isThere = line.columns.every(([set, column]) => (column === null ? source.has(set) : source.get(set)?.has(column))) && target.get(line.target[0])?.has(line.target[1]);
     return h("li", { class: model.selection?.kind === "line" && model.selection.index === index ? "selected" : "" },
       h("code", { class: isThere ? "" : "broken" }, lineText(line)), !isThere && h("span", { class: "broken" }, "no such column"),
       h("button", { onclick: () => { select({ kind: "line", index }); if (isThere) reach(line); } }, "select"),
@@ -295,7 +302,7 @@ function showProposals(error) {
   fill(panels.proposals, h("p", { class: "empty" }, "None is added by itself. Points: names alike up to 70, sets 15, same texts (if the folder has rows of the target in given/) 30."),
     h("ul", { class: "list" }, proposals.map((one) => h("li", { onmouseenter: () => ghost(one), onmouseleave: () => ghost(null), onfocusin: () => ghost(one), onfocusout: () => ghost(null) },
       h("span", { class: "score" }, String(one.score)), h("code", {}, `${one.source.join(".")} → ${one.target.join(".")}`),
-      h("button", { onclick: () => { ghost(null); edit({ do: "add_line", source: { columns: [one.source] }, target: one.target }, `line drawn: ${one.source.join(".")} to ${one.target.join(".")}`); }, "aria-label": `Draw ${one.source.join(".")} to ${one.target.join(".")}` }, "draw it"),
+      h("button", { onclick: () => { ghost(null); connect(one.source, one.target); }, "aria-label": `Draw ${one.source.join(".")} to ${one.target.join(".")}` }, "draw it"),
       h("button", { onclick: () => { show("source", ...one.source); show("target", ...one.target); ghost(one); } }, "show"),
       h("span", { class: "reasons" }, one.reasons.join("; "))))));
 }

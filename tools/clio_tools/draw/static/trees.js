@@ -1,14 +1,14 @@
 // Both sides as trees: sets with their columns, keys, refs, conditions and texts. Rows that are filtered out or collapsed aren't there.
 import { ask } from "./api.js";
 import { byId, h, counted, say } from "./dom.js";
-import { model, select, setsOf } from "./model.js";
+import { change, model, nameOf, rowsOf, select, setsOf } from "./model.js";
 
 const MANY = 200; // with more columns on a side, its sets begin collapsed
 export const sides = {
   source: { name: "source", collapsed: new Set(), known: new Set(), filter: "", lined: false, rows: [], at: new Map() },
   target: { name: "target", collapsed: new Set(), known: new Set(), filter: "", lined: false, rows: [], at: new Map() },
 };
-export const keyOf = (set, column) => (column === undefined ? set : `${set}.${column}`);
+export const keyOf = (set, column) => (column === undefined || column === null ? set : `${set}.${column}`);
 
 // The columns of each side that lines lead from and to, and what stands beside columns.
 function marks() {
@@ -64,7 +64,7 @@ function drawSide(side, { lined, texts, tests, ends }) {
     let columns = tree.columns.filter((column) => (whole || column.name.toLowerCase().includes(filter)) && (!side.lined || lined[side.name].has(keyOf(tree.name, column.name))));
     const isOpen = filter ? true : !side.collapsed.has(tree.name);
     const under = hidden(tree.name);
-    if (under) { tree.columns.forEach((column) => side.at.set(keyOf(tree.name, column.name), { set: under })); continue; }
+    if (under) { side.at.set(tree.name, { set: under }); tree.columns.forEach((column) => side.at.set(keyOf(tree.name, column.name), { set: under })); continue; }
     if ((filter || side.lined) && !columns.length && !(whole && filter) && !(side.lined && tree.inner.length)) continue;
     rows.push(setRow(side, tree, level, isOpen, columns.length));
     for (const column of tree.columns) {
@@ -90,15 +90,23 @@ function setRow(side, tree, level, isOpen, count) {
     "aria-label": `${level > 1 ? "inner set" : "set"} ${tree.name}, ${counted(count, "column")}` },
   side.name === "target" && h("span", { class: "port", "aria-hidden": "true" }),
   h("span", { class: "twist", "aria-hidden": "true" }, isOpen ? "▾" : "▸"), h("span", { class: "name" }, tree.name),
+  h("button", { class: "badge menu", tabindex: -1, "data-menu": "", title: side.name === "target" ? "From which set its rows come; keys and refs" : "Keys, refs and lookups", "aria-label": `Set ${tree.name}` }, menuOf(side, tree.name)),
   h("span", { class: "count", "data-count": count }, countOf(side, tree.name, isOpen, count)),
   side.name === "source" && h("span", { class: "port", "aria-hidden": "true" }));
   row.style.paddingLeft = `${8 + 14 * (level - 1)}px`;
   return row;
 }
 
+// What the button of a set shows: the sets that its rows come from, as far as the text says so.
+function menuOf(side, name) {
+  if (side.name === "source") return model.outline.lookups.includes(name) ? "looked up" : "⋯";
+  const sets = [...new Set(rowsOf(name).map((one) => one.source))];
+  return sets.length ? `from ${sets.join(", ")}` : model.outline.notes ? "from ?" : "⋯";
+}
+
 function countOf(side, name, isOpen, count) {
   const source = side.name === "source" ? model.live?.sources?.[name] : null, rows = side.name === "target" ? model.live?.tables?.[name] : null;
-  const told = source ? { "made up": "made-up rows", whole: source.file, sample: `${source.rows} of ${source.of?.toLocaleString("en")} rows` }[source.kind] : rows ? counted(rows.count, "row") : "";
+  const told = source ? { "made up": "made-up rows", whole: source.file, sample: `${source.rows} of ${source.of?.toLocaleString("en")} rows` }[source.kind] : rows ? counted(rows.count, "row") + change(name) : "";
   return [isOpen ? "" : counted(count, "column"), told].filter(Boolean).join(" · ");
 }
 
@@ -134,7 +142,7 @@ function columnRow(side, tree, column, level, { lined, texts, tests, ends }) {
   });
   (tests ?? []).forEach((test) => { badges.push(h("span", { class: "badge only" }, `only ${test}`)); said.push(`only ${test}`); });
   (texts ?? []).forEach(([text, index]) => { badges.push(h("button", { class: "badge literal", tabindex: -1, "data-line": index, title: `line ${JSON.stringify(text)}` }, JSON.stringify(text))); said.push(`text ${text}`); });
-  if (ends.length) said.push(counted(ends.length, "line") + " " + (side.name === "source" ? "to " + ends.map((line) => line.target.join(".")).join(", ") : "from " + ends.map((line) => line.columns.map((one) => one.join(".")).join(" and ")).join(", ")));
+  if (ends.length) said.push(counted(ends.length, "line") + " " + (side.name === "source" ? "to " + ends.map((line) => line.target.join(".")).join(", ") : "from " + ends.map((line) => line.columns.map(nameOf).join(" and ")).join(", ")));
   const row = h("div", { class: `row column${lined ? " lined" : ""}`, role: "treeitem", tabindex: -1, "aria-level": level + 1, "data-key": keyOf(tree.name, name), "data-set": tree.name, "data-column": name,
     "aria-label": [`column ${name} of ${tree.name}`, ...said].join(", ") },
   side.name === "target" && h("span", { class: "port" }), h("span", { class: "name", title: `${tree.name}.${name}` }, name), ...badges, side.name === "source" && h("span", { class: "port" }));
@@ -147,6 +155,7 @@ export function markRows() {
   const one = model.selection, line = one?.kind === "line" ? model.outline?.lines[one.index] : null;
   const chosen = new Set(), why = new Set();
   if (line) { line.columns.forEach((column) => chosen.add("source:" + keyOf(...column))); chosen.add("target:" + keyOf(...line.target)); }
+  if (one?.kind === "set") chosen.add(`${one.side}:${one.set}`);
   if (one?.kind === "column") chosen.add(`${one.side}:${keyOf(one.set, one.column)}`);
   for (const index of model.because) { const other = model.outline?.lines[index]; if (other) { other.columns.forEach((column) => why.add("source:" + keyOf(...column))); why.add("target:" + keyOf(...other.target)); } }
   const clash = /^clash: table (\w+), key \(([^)]*)\): .* in column (\S+)$/s.exec(model.live?.fault?.message ?? "");
