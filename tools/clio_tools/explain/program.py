@@ -1,5 +1,6 @@
 """The program, and the mapping whose rules it prints."""
 import os
+import pathlib
 import shutil
 import subprocess
 
@@ -16,17 +17,19 @@ def program() -> str:
     return os.fsdecode(ended.stdout).strip()
 
 
-def printed_rules() -> list[bytes] | None:
-    """The lines of rules that `clio show` prints for the mapping in this folder."""
-    ended = subprocess.run([program(), "show"], stdin=subprocess.DEVNULL, capture_output=True, check=False)
+def printed_rules(folder: pathlib.Path | None = None) -> list[bytes] | None:
+    """The lines of rules that `clio show` prints for the mapping in a folder, or in this one."""
+    command = [os.path.abspath(program()), "show"]
+    ended = subprocess.run(command, stdin=subprocess.DEVNULL, capture_output=True, check=False, cwd=folder)
     if ended.returncode:
         return None
     return [line + b"\n" for line in ended.stdout.split(b"\n") if line.startswith(b"rule ")]
 
 
-def mapping_of(content: bytes) -> tuple[Mapping | None, list[str]]:
-    """The mapping of a text, with the rules that clio prints in place of its lines; and these rules as texts."""
-    printed = printed_rules()
+def mapping_of(content: bytes, folder: pathlib.Path | None = None) -> tuple[Mapping | None, list[str]]:
+    """The mapping of a folder's text, with the rules that clio prints in place of its lines; and these rules as
+    texts."""
+    printed = printed_rules(folder)
     if printed is None:
         return None, []
     try:
