@@ -1,4 +1,5 @@
-"""The figures of the documents are those of their program, and the documents show each; the list of the crates."""
+"""The documents: figures are those of their program and each is shown; links lead somewhere; the list of crates."""
+import pathlib
 import re
 import subprocess
 import sys
@@ -6,8 +7,29 @@ import unittest
 
 from trial import TOP
 
+LINK = re.compile(r"\]\(([^)\s]+)\)")
 LISTED = re.compile(r"^- ((?:`\w+`(?:\\\*)?(?:, )?)+):", re.M)
 PAGES = [TOP / "README.md", TOP / "crates/README.md", *sorted((TOP / "docs").glob("**/*.md"))]
+
+
+def without_code(page: pathlib.Path) -> str:
+    """A page without its blocks of code."""
+    return re.sub(r"^```.*?^```$", "", page.read_text(encoding="utf-8"), flags=re.M | re.S)
+
+
+def anchors(page: pathlib.Path) -> set[str]:
+    """The names by which links reach the headings of a page, and those that it sets itself."""
+    text = without_code(page)
+    headings = re.findall(r"^#+ (.*)$", text, re.M)
+    return {re.sub(r"[^\w\- ]", "", heading.lower()).replace(" ", "-") for heading in headings} | set(
+        re.findall(r'<a id="([^"]*)">', text))
+
+
+def is_there(page: pathlib.Path, link: str) -> bool:
+    """Whether a link of a page leads to something."""
+    name, _, place = link.partition("#")
+    file = page.parent / name if name else page
+    return file.exists() and (not place or place in anchors(file))
 
 
 def uses() -> dict[str, set[str]]:
@@ -22,6 +44,14 @@ class Figures(unittest.TestCase):
         subprocess.run([sys.executable, "-B", TOP / "dev" / "figures", "--check"], check=True)
         shown = {name for page in PAGES for name in re.findall(r"figures/([a-z-]+[.]svg)", page.read_text("utf-8"))}
         self.assertEqual(shown, {path.name for path in (TOP / "docs/figures").glob("*.svg")})
+
+
+class Links(unittest.TestCase):
+    def test_each_link_leads_to_a_file_and_to_a_heading_of_it(self) -> None:
+        pages = [*PAGES, TOP / "CHANGELOG.md", *TOP.glob("*/README.md"), *TOP.glob("*/*/README.md")]
+        lost = [f"{page.relative_to(TOP)}: {link}" for page in pages for link in LINK.findall(without_code(page))
+                if not link.startswith("http") and not is_there(page, link)]
+        self.assertEqual(lost, [])
 
 
 class Crates(unittest.TestCase):
