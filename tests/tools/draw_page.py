@@ -1,4 +1,6 @@
 """A page of clio-draw in Chromium, for the tests of the page."""
+import atexit
+import functools
 import json
 import pathlib
 import subprocess
@@ -7,6 +9,14 @@ import unittest
 
 import chromium
 from trial import TOOLS
+
+
+@functools.cache
+def browser() -> chromium.Chromium:
+    """The one browser of all scenarios."""
+    made = chromium.Chromium()
+    atexit.register(made.close)
+    return made
 
 
 class Page(unittest.TestCase):
@@ -19,8 +29,7 @@ class Page(unittest.TestCase):
         if chromium.PATH is None:
             print("tools: clio-draw's page is left out, since there is no Chromium", flush=True)
             raise unittest.SkipTest("no Chromium")
-        cls.browser = chromium.Chromium()
-        cls.addClassCleanup(cls.browser.close)
+        cls.browser = browser()
 
     def open(self, folder: pathlib.Path) -> None:
         """The page of a folder, after its first live run."""

@@ -179,7 +179,7 @@ class Results(Page):
         self.open(draw_trial.copy_of("teams"))
         self.browser.click('[data-table="team"] tbody tr')
         self.browser.until("document.getElementById('why') && !document.getElementById('why').hidden")
-        for one in ("3 rows that rules ask for became this one", "emp.csv line 2",
+        for one in ("3 matches ask for it", "emp.csv line 2",
                     "two rows of team agree on its key (label): label = toys", "?0.1.1"):
             self.assertIn(one, self.shown("#why"))
         self.assertEqual(self.count("#curves .because"), 2)

@@ -128,7 +128,7 @@ class Requests(Served):
             self.assertEqual((made["tables"]["team"]["count"], made["whole"]), (2, whole))
             reason = self.call("why", whole=whole, run=made["run"], table="team",
                                row=made["tables"]["team"]["rows"][0])
-            self.assertEqual(reason["different"], 3)
+            self.assertEqual(reason["count"], 3)
         self.assertEqual(before, sorted(path.name for path in self.path.iterdir()))
 
     def test_saving(self) -> None:

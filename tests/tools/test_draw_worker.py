@@ -11,7 +11,7 @@ import unittest.mock
 from typing import Any
 
 import draw_trial
-from trial import PROGRAM
+from trial import PROGRAM, TIMES
 
 from clio_tools.draw.faults import place_of
 from clio_tools.draw.worker import Worker
@@ -47,15 +47,15 @@ class Live(unittest.TestCase):
     def setUp(self) -> None:
         self.addCleanup(os.chdir, os.getcwd())
 
-    def test_every_row_of_every_example_has_a_reason(self) -> None:
+    def test_every_row_of_an_example_has_a_reason(self) -> None:
         found = [0, 0, 0]
         for path, content in draw_trial.texts():
-            if path.name == "mapping.clio":
+            if path.name == "mapping.clio" and (path.parent.parent == draw_trial.EXAMPLES or TIMES > 1):
                 for core in False, True:
                     self.of_example(path.parent, content, core, found)
-        self.assertGreater(found[0], 100)
-        self.assertGreater(found[1], 2000)
-        self.assertGreater(found[2], 1000)
+        self.assertGreater(found[0], 20)
+        self.assertGreater(found[1], 500)
+        self.assertGreater(found[2], 200)
 
     def of_example(self, folder: pathlib.Path, content: bytes, core: bool, found: list[int]) -> None:
         """A run ends as clio does, each of its rows has a reason, and each source row goes somewhere or is unused."""
@@ -77,11 +77,14 @@ class Live(unittest.TestCase):
                 reason = ask("why", table=name, row=row)
                 self.check_reason(reason, row, (folder, core, name, row))
                 found[1] += 1
-                found[2] += bool(reason["merges"])
+                found[2] += bool(reason["replaced"])
         for table in ask("sources")["tables"]:
-            for row in table["rows"]:
-                goes = ask("forward", table=table["name"], row=row["number"])
+            for number, row in enumerate(table["rows"]):
+                goes = ask("forward", table=table["name"], row=number)
                 self.assertEqual(bool(goes["rows"]), row["why"] is None, (folder, table["name"], row))
+            if table["count"] < 100:
+                self.assertEqual(sum(group["count"] for group in table["groups"]),
+                                 sum(row["why"] is not None for row in table["rows"]), (folder, table["name"]))
 
     def check_reason(self, reason: Any, row: list[str], which: object) -> None:
         """A row has a rule and source rows; each text in it has a source, and each null has none."""
@@ -89,7 +92,8 @@ class Live(unittest.TestCase):
         self.assertEqual([one["text"] for one in reason["cells"]], row)
         for one in reason["cells"]:
             is_null = one["text"][:1] == "?" and one["text"][1:2] != "?"
-            self.assertEqual(one["kind"] in ("open", "link"), is_null, (which, one))
+            self.assertEqual(one["kind"] == "open", is_null, (which, one))
+            self.assertEqual(bool(one["where"]), one["kind"] in ("column", "conversion"), (which, one))
         for asked in reason["asked"]:
             self.assertTrue(asked["matches"], which)
 
@@ -104,6 +108,7 @@ class Live(unittest.TestCase):
         reason = ask("why", table="leg", row=["F1", "Frankfurt", "New York"])
         self.assertEqual([one["where"] for one in reason["cells"]],
                          ["flight.csv line 2", "port.csv line 2", "port.csv line 3"])
+        self.assertEqual([one["line"] for one in reason["cells"]], [0, 1, 2])
 
     def test_samples_keep_links(self) -> None:
         folder = draw_trial.room()

@@ -1,9 +1,11 @@
-"""The one edit that answers a fault of a drawing or a warning: the page offers it as a button."""
+"""The one edit that answers a fault of a drawing, a warning, or that a source row is not used: the page offers it as a
+button."""
 import re
-from collections.abc import Iterator
+from collections.abc import Iterator, Sequence
 
 from ..mapping import tree
 from ..mapping.places import Fault
+from ..why.data import Miss
 from .outline import Data, Outline
 
 WAYS = re.compile(r"several ways lead from \w+ to \w+ for [\w.]+: say which, (.*)")
@@ -97,3 +99,26 @@ def _keys(name: str, outline: Outline) -> Iterator[Data]:
                if line.target.set.text == name and line.literal is None]
     for column in dict.fromkeys(columns):
         yield _cure(f"key ({column}) of {name}", _clause("target", name, {"kind": "key", "columns": [column]}))
+
+
+# --- rows that are not used ------------------------------------------------------------------------------------------
+
+def of_misses(misses: Sequence[Miss], outline: Outline) -> list[Data]:
+    """The edits by which source rows don't miss what they missed."""
+    return [cure for miss in misses for cure in _of_miss(miss, outline)][:MOST]
+
+
+def _of_miss(miss: Miss, outline: Outline) -> Iterator[Data]:
+    if miss.kind == "ref":
+        for one in outline.side("source"):
+            for number, each in enumerate(one.refs):
+                columns = tuple(word.text for word in each.columns)
+                if (one.name.text, columns, each.set.text) == (miss.from_set, miss.from_columns, miss.set) \
+                        and each.optional is None:
+                    yield _optional("source", one, number)
+    elif miss.kind == "condition":
+        for number, one_only in enumerate(outline.tree.conditions):
+            place = (one_only.place.set.text, one_only.place.column.text, one_only.test.text)
+            if place == (miss.set, miss.columns[0], miss.test):
+                yield _cure(f"without only {place[0]}.{place[1]} {place[2]}",
+                            {"do": "delete", "kind": "only", "index": number})

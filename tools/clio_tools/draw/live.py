@@ -6,17 +6,18 @@ import shutil
 import time
 
 from ..csv import records
-from ..explain.joins import TooMany
 from ..explain.traps import Traps, switched_off
 from ..mapping.meaning import Mapping, read_mapping
 from ..mapping.rules import TooLarge, closed
 from ..mapping.rules import printed as printed_rule
+from ..program import Refused
+from ..why.exchange import is_null
 from . import faults
 from .clashing import rows_of_clash
 from .cures import of_warning
 from .meant import Meant, meant
 from .outline import Data, Outline
-from .reasons import Reasons, is_null
+from .reasons import Reasons
 from .running import Ended, Runner, Stopped
 from .sample import Report, Sampler
 from .words import in_words
@@ -102,8 +103,7 @@ class Live:
     def _rule(self, number: int) -> Data:
         """A rule in words; one of a drawing with the lines and the `rows` behind it."""
         assert self.mapping is not None
-        rule, place = self.mapping.rules[number], number - self.meant.plain
-        behind = self.meant.behind[place] if 0 <= place < len(self.meant.behind) else None
+        rule, behind = self.mapping.rules[number], self.meant.behind_rule(number)
         words = in_words(rule, self.mapping, behind.lines if behind else [] if self.meant.is_drawing else None)
         return {"text": self.printed[number], "words": words, "says": behind.says if behind else "",
                 "rows": behind.rows if behind else None,
@@ -179,9 +179,9 @@ class Live:
             return "there is no target"
         if self.reasons is None:
             try:
-                self.reasons = Reasons(self.mapping, self.report)
-            except TooMany:
-                return "the rules have too many matches here: take fewer rows of each file"
+                self.reasons = Reasons(pathlib.Path.cwd(), self.meant, self.report, self.content)
+            except Refused as why:
+                return str(why)
         return self.reasons
 
     def why(self, table: str, row: list[str]) -> Data:

@@ -36,6 +36,11 @@ class Meant:
     remarks: tuple[str, ...] = ()
     faults: tuple[Fault, ...] = ()
 
+    def behind_rule(self, number: int) -> Behind | None:
+        """What is behind a rule that clio prints; None if lines without notes, or a rule by hand, made it."""
+        place = number - self.plain
+        return self.behind[place] if 0 <= place < len(self.behind) else None
+
 
 def meant(content: bytes, is_drawing: bool) -> Meant:
     """The mapping of a text; notes make it a drawing whatever its name is."""

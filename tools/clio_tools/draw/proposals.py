@@ -13,9 +13,9 @@ from ..explain.source import file_of
 from ..mapping.meaning import Mapping
 from ..mapping.rules import EXISTENTIAL
 from ..mapping.tables import Table
+from ..why.exchange import is_null
 from .likeness import alike, with_set
 from .outline import Data
-from .reasons import is_null
 
 LEAST = 45
 PER_COLUMN = 3

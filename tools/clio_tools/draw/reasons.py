@@ -1,245 +1,172 @@
-"""Why a row is in the target: the rules that ask for it, the source rows of their matches, and the keys that put values
-in the place of its nulls; and where a source row goes, or why it goes nowhere.
+"""Why a row is in the target, and where a source row goes or what it missed: the reasons of clio_tools.why as data for the
+page, with the places in the whole files, and the lines of the page's text."""
+import pathlib
+from collections.abc import Iterator
 
-All is computed anew from the files of the live run, as the definitions say, and compared with what clio wrote: a row of
-`out` that no rule asks for is reported as a disagreement."""
-from typing import Any
-
-from ..csv import read_table
-from ..explain.joins import Matches
-from ..explain.key_chase import Canonical, KeyChase, cell_value
 from ..explain.said import shown
-from ..explain.source import Source
-from ..mapping.meaning import Mapping
-from ..mapping.rules import Rule
-from ..mapping.tables import Link
-from .outline import Data
-from .places import placed_row
+from ..program import Refused
+from ..why.data import CellReason, Match, Miss, Replacement, RowReason, SourceReason
+from ..why.exchange import Exchange
+from ..why.reasons import Reasons as Known
+from ..why.source import Fact, declared
+from . import cures
+from .meant import Meant
+from .outline import Data, Outline
+from .places import placed
 from .sample import Report
-from .words import in_words
 
-MOST_ORIGINS = 6
-MOST_MATCHES = 3
-MOST_ROWS = 40  # rows of the target that are shown of one source row
-MOST_STEPS = 16
-MOST_IN_ALL = 400_000  # steps of the search for matches of a rule
-
-
-def value_text(value: Any) -> str:
-    """A value as clio writes it."""
-    if isinstance(value, tuple):
-        return "?" + ".".join(map(str, value))
-    text = str(value)
-    return "?" + text if text[:1] == "?" else text
-
-
-def is_null(text: str) -> bool:
-    """Whether a text in `out` is a null."""
-    return text[:1] == "?" and text[1:2] != "?"
-
-
-class UsedMatches(Matches):
-    """The matches of a rule, with more of each tuple than clio-explain keeps, and with each source row that is in
-    one."""
-
-    kept = 50
-
-    def __init__(self, rule: Rule, source: Source) -> None:
-        self.used: list[set[int]] = [set() for _ in rule.premise]
-        super().__init__(rule, source, most=MOST_IN_ALL)
-
-    def keep(self) -> None:
-        """Takes a match down."""
-        super().keep()
-        for used, row in zip(self.used, self.chosen):
-            used.add(row)
+MOST_COUNTED = 20_000  # rows of a source set of which each is looked at
+Group = tuple[str, str, tuple[str, ...], str, tuple[str, ...], str]  # what rows missed, without their texts
 
 
 class Reasons:
-    """The matches of all rules on the source of a run, the rows that they ask for, and what keys and core mode made of
-    them."""
+    """The reasons of the last run; `content` is the text of the page, and a drawing's mapping is another."""
 
-    def __init__(self, mapping: Mapping, report: Report) -> None:
-        self.mapping, self.report = mapping, report
-        self.words: dict[int, Any] = {}
-        self.source = Source(mapping)
-        self.matches = [UsedMatches(rule, self.source) for rule in mapping.rules]
-        self.canonical = Canonical(mapping.rules, self.matches, mapping.target, kept=MOST_ORIGINS + 1)
-        self.chase = KeyChase(self.canonical.rows, mapping.target)
-        self.fold = {row[0]: row[1] for row in read_table("out/fold.csv", ["null", "value"])}
-        self.at: list[dict[tuple[str, ...], list[int]]] = []
-        self.known: dict[Link, set[tuple[str, ...]]] = {}
-        for number in range(len(mapping.target)):
-            places: dict[tuple[str, ...], list[int]] = {}
-            for place, row in enumerate(self.canonical.rows[number]):
-                places.setdefault(self.last(row), []).append(place)
-            self.at.append(places)
-
-    def last(self, row: Any) -> tuple[str, ...]:
-        """What the fold makes of a row."""
-        return tuple([self.fold.get(text, text) for text in map(value_text, row)])
+    def __init__(self, room: pathlib.Path, meant: Meant, report: Report, content: bytes) -> None:
+        self.known = Known(Exchange(room))
+        self.exchange, self.meant, self.report = self.known.exchange, meant, report
+        self.outline = Outline(content)
+        self.listed: dict[str, list[Fact]] = {}
 
     # --- of a target row ---------------------------------------------------------------------------------------------
 
-    def of_row(self, table_name: str, cells: list[str]) -> Data:
+    def of_row(self, table: str, cells: list[str]) -> Data:
         """Why a row is there."""
-        number = next(number for number, table in enumerate(self.mapping.target) if table.name == table_name)
-        places = self.at[number].get(tuple(cells))
-        if places is None:
-            return {"unknown": "no rule asks for this row: the text or the data changed since it was made"}
-        rows, origins = self.canonical.rows[number], self.canonical.origins[number]
-        found = [(place, origin) for place in places for origin in origins[place]]
-        found.sort(key=lambda one: sum(isinstance(value, tuple) for value in rows[one[0]]))  # those that say most first
-        return {"cells": self.cells(number, places, cells), "rules": sorted({origin.rule for _, origin in found}),
-                "asked": [self.origin(number, *one) for one in found[:MOST_ORIGINS]],
-                "more": len(found) > MOST_ORIGINS, "different": len(places), "merges": self.merges(number, places)}
+        try:
+            reason = self.known.row(table, tuple(cells))
+        except Refused as why:
+            return {"unknown": str(why)}
+        return {"cells": [self._cell(reason, one) for one in reason.cells],
+                "rules": [rule for rule, _ in reason.rules], "count": reason.count,
+                "asked": [self._match(one) for one in reason.asked],
+                "replaced": [self._replaced(one) for one in reason.replaced]}
 
-    def cells(self, table: int, places: list[int], texts: list[str]) -> list[Data]:
-        """For each cell of a row from which source column its text is, by which rule; or that nobody gave it."""
-        rows, origins = self.canonical.rows[table], self.canonical.origins[table]
-        made = []
-        for column, text in enumerate(texts):
-            found = next((origin for place in places for origin in origins[place]
-                          if not isinstance(rows[place][column], tuple) and value_text(rows[place][column]) == text),
-                         None)
-            said: Data = {"column": self.mapping.target[table].columns[column], "text": text}
-            if found:
-                said.update(self.cell(found, column))
-            else:
-                said["kind"] = "open" if is_null(text) else "merged"
-            made.append(said)
-        return made
+    def _cell(self, reason: RowReason, one: CellReason) -> Data:
+        """Where the value of a cell is from."""
+        given = [f"{each.set}.{each.column}" for each in one.given]
+        says = f"{one.conversion}({', '.join(given)})" if one.conversion else ", ".join(given)
+        places = dict.fromkeys(self._place(each.row.file, placed(each.row, self.report)) for each in one.given)
+        return {"column": one.column, "text": one.value, "kind": one.kind, "says": says, "where": ", ".join(places),
+                "rule": one.match.rule, "line": self._line(reason.set, one), "shared": list(one.shared),
+                "instead_of": one.instead_of}
 
-    def cell(self, origin: Any, column: int) -> Data:
-        """Where a rule has the text of a cell from, at one of its matches."""
-        rule = self.mapping.rules[origin.rule]
-        if origin.rule not in self.words:
-            self.words[origin.rule] = in_words(rule, self.mapping)
-        _, kind, says, *_ = self.words[origin.rule]["made"][origin.atom]["cells"][column]
-        said: Data = {"kind": kind, "says": says, "rule": origin.rule}
-        if kind == "is":
-            chosen = self.matches[origin.rule].found[origin.tuple][0]
-            variable = int(rule.conclusion[origin.atom].cells[column].content)
-            if variable >= rule.premise_variables():
-                variable = rule.derived[variable - rule.premise_variables()].arguments[0]
-            atom = next(place for place, one in enumerate(rule.premise) if variable in one.cells)
-            row = self.source_row(rule.premise[atom].table, chosen[atom])
-            said["where"] = f"{row['file']} {str(row['where']).partition(' (')[0]}"
-        return said
+    @staticmethod
+    def _place(file: str, row: Data) -> str:
+        """A short name of a place."""
+        return f"{row['file'] or file} {str(row['where']).partition(' (')[0]}"
 
-    def origin(self, table: int, place: int, origin: Any) -> Data:
-        """One match of a rule that asks for a row: how the rule made the row, and from which source rows."""
-        rule = self.mapping.rules[origin.rule]
-        found = self.matches[origin.rule].found[origin.tuple]
-        return {"rule": origin.rule, "atom": origin.atom,
-                "row": list(map(value_text, self.canonical.rows[table][place])),
-                "matches": [[self.source_row(atom.table, row) for atom, row in zip(rule.premise, chosen)]
-                            for chosen in found[:MOST_MATCHES]],
-                "more": len(found) > MOST_MATCHES}
+    def _line(self, table: str, one: CellReason) -> int | None:
+        """The number of the line of the page's text that gives a cell."""
+        lines = self.outline.tree.lines
+        if not self.meant.is_drawing:
+            return next((number for number, line in enumerate(lines) if one.part and line.start == one.part.start),
+                        None)
+        behind = self.meant.behind_rule(one.match.rule)
+        same = [each for each in self.meant.behind if behind is not None and each.rows == behind.rows]
+        names = {number for each in [behind, *same] if each is not None for number in each.lines}
+        return next((number for number in sorted(names) if lines[number].target.column.text == one.column
+                     and lines[number].target.set.text == table), None)
 
-    def source_row(self, number: int, row: int) -> Data:
-        """A source row with its place in the whole file."""
-        return placed_row(self.source, self.report, number, row)
+    def _match(self, one: Match) -> Data:
+        """A match that asks for a row, with its source rows."""
+        return {"rule": one.rule, "atom": one.atom, "row": list(one.row), "more": one.count > len(one.sources),
+                "matches": [[placed(row, self.report) for row in rows] for rows in one.sources]}
 
-    def merges(self, table: int, places: list[int]) -> list[Data]:
-        """Why values took the places of the nulls in these rows, one step after the other."""
-        seen: set[object] = set()
-        steps: list[Data] = []
-        for place in places[:MOST_ORIGINS]:
-            for value in self.canonical.rows[table][place]:
-                self.follow(value, seen, steps)
-        return steps
+    def _replaced(self, one: Replacement) -> Data:
+        """What came in the place of a null."""
+        return {"null": one.null, "value": one.value, "by": one.by, "set": one.set, "columns": list(one.columns),
+                "agreed": list(one.agreed), "rows": [self._match(each) for each in one.matches]}
 
-    def follow(self, value: Any, seen: set[object], steps: list[Data]) -> None:
-        """The steps that replaced a value, and those that made the rows agree that did it."""
-        while isinstance(value, tuple) and value not in seen and len(steps) < MOST_STEPS:
-            seen.add(value)
-            step = self.chase.steps.get(value)
-            if step is None:
-                text = value_text(value)
-                if text in self.fold:
-                    steps.append({"null": text, "value": self.fold[text], "by": "core"})
-                return
-            left, _ = self.chase.determinations[step.table][step.key]
-            steps.append(self.step(value, step, left))
-            for row in step.rows:
-                for column in left:
-                    self.follow(self.canonical.rows[step.table][row][column], seen, steps)
-            value = step.value
-
-    def step(self, value: Any, step: Any, left: tuple[int, ...]) -> Data:
-        """A step of the chase: two rows that agree, and the value that took the place of a null."""
-        table, rows = self.mapping.target[step.table], self.canonical.rows[step.table]
-        met = [{**self.origin(step.table, row, self.canonical.origins[step.table][row][0])} for row in step.rows]
-        agreed = [value_text(self.chase.value(rows[step.rows[0]][column])) for column in left]
-        return {"null": value_text(value), "value": value_text(step.value),
-                "by": "key" if step.key < len(table.keys) else "dep", "set": table.name,
-                "columns": [table.columns[column] for column in left], "agreed": agreed, "rows": met}
-
-    # --- of a source row ---------------------------------------------------------------------------------------------
+    # --- of source rows ----------------------------------------------------------------------------------------------
 
     def source_tables(self, most: int) -> list[Data]:
-        """The first rows of each source table, with the rules that use each, or why none does."""
-        return [self.source_table(number, most) for number in range(len(self.source.tables))
-                if self.report[self.source.root(number).name].kind != "test"]
+        """The first rows of each source table, with what each unused one missed."""
+        return [self._table(number, most) for number, table in enumerate(self.exchange.mapping.source)
+                if self._root(number) in self.report and self.report[self._root(number)].kind != "test"]
 
-    def source_table(self, number: int, most: int) -> Data:
-        """One source table."""
-        table, rows = self.source.tables[number], self.source.rows[number]
-        uses: dict[int, set[int]] = {}
-        for rule, found in enumerate(self.matches):
-            for atom, used in zip(self.mapping.rules[rule].premise, found.used):
-                for row in used if atom.table == number else ():
-                    uses.setdefault(row, set()).add(rule)
-        declared = [column for column, name in enumerate(table.columns) if not name.startswith("#")]
-        shown_rows = [{"number": row, "cells": [cells[column] for column in declared],
-                       "rules": sorted(uses.get(row, ())),
-                       "why": None if row in uses else self.why_not(number, row)[0]}
-                      for row, cells in enumerate(rows.rows[:most])]
-        return {"name": table.name, "columns": [table.columns[column] for column in declared],
-                "count": len(rows.rows), "failing": self.source.failing[number],
-                "unused": len(rows.rows) - len(uses), "repeats": rows.repeats,
-                "made_up": self.report[self.source.root(number).name].kind == "made up", "rows": shown_rows}
+    def _root(self, number: int) -> str:
+        source = self.exchange.source
+        return source.tables[source.root(number)].name
 
-    def is_read(self, number: int) -> bool:
-        """Whether a rule reads a table."""
-        return any(atom.table == number for rule in self.mapping.rules for atom in rule.premise)
+    def _table(self, number: int, most: int) -> Data:
+        """One source table: its rows in the order of the file, also those that fail a condition."""
+        table, rows = self.exchange.mapping.source[number], self.exchange.source.rows(number)
+        columns = declared(table)
+        facts = self.listed[table.name] = []
+        groups: dict[Group, Data] = {}
+        first: list[Data] = []
+        count = unused = 0
+        for fact in self._facts(number):
+            count += 1
+            if count > MOST_COUNTED:
+                break
+            misses = self._misses(fact)
+            if misses:
+                unused += 1
+                self._put(misses[0], groups)
+            if len(facts) < most:
+                facts.append(fact)
+                first.append({"cells": [fact.row[column] for column in columns],
+                              "why": _said(misses[0])[0] if misses else None})
+        return {"name": table.name, "columns": [table.columns[column] for column in columns],
+                "count": len(rows.rows), "counted": count <= MOST_COUNTED, "unused": unused, "rows": first,
+                "repeats": count - len({fact.row for fact in self._facts(number)}) if count <= MOST_COUNTED else 0,
+                "groups": list(groups.values()), "made_up": self.report[self._root(number)].kind == "made up"}
 
-    def why_not(self, number: int, row: int) -> tuple[str, int | None]:
-        """Why no rule uses a source row; and which ref it is if making that optional would take the row."""
-        if not self.is_read(number):
-            return "no rule reads this set", None
-        table = self.source.tables[number]
-        needed = [place for place, ref in enumerate(table.tree.references) if not ref.optional]
-        for place, link in zip(needed, table.links[table.parent is not None:]):
-            wanted = tuple([self.source.rows[number].rows[row][column] for column in link.own])
-            if wanted not in self.referred(link):
-                own = ", ".join(f"{table.columns[column]} = {shown(text)}" for column, text in zip(link.own, wanted))
-                return f"no row of {self.source.tables[link.table].name} matches its {own}", place
-        return "no match of a rule has it", None
+    def _facts(self, number: int) -> Iterator[Fact]:
+        """The rows of a table as they are in the file."""
+        source = self.exchange.source
+        return (fact for fact in source.facts(source.root(number)) if fact.table == number)
 
-    def referred(self, link: Link) -> set[tuple[str, ...]]:
-        """The texts to which a link can lead."""
-        if link not in self.known:
-            self.known[link] = {tuple([row[column] for column in link.referred])
-                                for row in self.source.rows[link.table].rows}
-        return self.known[link]
+    def _misses(self, fact: Fact) -> tuple[Miss, ...]:
+        """What a row missed; nothing if a rule uses it."""
+        number = self.exchange.source.rows(fact.table).numbers.get(fact.row)
+        if number is not None and self.known.missing.is_used(fact.table, number):
+            return ()
+        return self.known.missing.misses(fact)[0]
 
-    def of_source_row(self, table_name: str, row: int) -> Data:
-        """Which rows of the target a source row has part in."""
-        number = next(number for number, table in enumerate(self.source.tables) if table.name == table_name)
-        found: dict[tuple[int, tuple[str, ...]], set[int]] = {}
-        for rule, matches in enumerate(self.matches):
-            atoms = [place for place, atom in enumerate(self.mapping.rules[rule].premise) if atom.table == number]
-            if not any(row in matches.used[place] for place in atoms):
-                continue
-            for place, texts in enumerate(matches.places()):
-                if any(chosen[atom] == row for chosen in matches.found[texts] for atom in atoms):
-                    values = dict(zip(matches.exported, texts))
-                    for atom in self.mapping.rules[rule].conclusion:
-                        made = self.last([cell_value(cell, values, rule, place) for cell in atom.cells])
-                        found.setdefault((atom.table, made), set()).add(rule)
-        return {"row": self.source_row(number, row), "ref": None if found else self.why_not(number, row)[1],
-                "more": len(found) > MOST_ROWS,
-                "rows": [{"table": self.mapping.target[table].name, "cells": list(cells), "rules": sorted(rules)}
-                         for (table, cells), rules in list(found.items())[:MOST_ROWS]]}
+    def _put(self, miss: Miss, groups: dict[Group, Data]) -> None:
+        """Counts a row among those that missed the same."""
+        key = (miss.kind, miss.from_set, miss.from_columns, miss.set, miss.columns, miss.test)
+        if key not in groups:
+            groups[key] = {"count": 0, "says": _of_group(miss), "cures": cures.of_misses([miss], self.outline)}
+        groups[key]["count"] = int(str(groups[key]["count"])) + 1
+
+    def of_source_row(self, table: str, row: int) -> Data:
+        """Which rows of the target a source row has part in, or what it missed; the row is one that was listed."""
+        reason: SourceReason = self.known.source_fact(self.listed[table][row])
+        return {"row": placed(reason.row, self.report), "count": reason.count,
+                "rules": [rule for rule, _ in reason.rules],
+                "rows": [{"table": one.set, "cells": list(one.row), "rule": one.rule} for one in reason.made],
+                "misses": [_said(one) for one in reason.misses],
+                "cures": cures.of_misses(reason.misses, self.outline) if reason.edits else []}
+
+
+def _said(miss: Miss) -> list[str]:
+    """What a row missed, in words."""
+    texts = ", ".join(f"{column} = {shown(text)}" for column, text in zip(miss.columns, miss.texts))
+    if miss.kind == "unread":
+        return [f"no rule reads {miss.set}"]
+    if miss.kind == "condition":
+        return [f"{texts} is not {miss.test}"]
+    said = [f"no row of {miss.set} has {texts}" + _asked(miss)]
+    if miss.near:
+        said.append(f"{shown(miss.near)} is there, which differs by case or by signs that aren't seen: mend the file")
+    if miss.failing:
+        said.append(f"one that has it fails a condition: {miss.failing.where}")
+    return said
+
+
+def _asked(miss: Miss) -> str:
+    """What asked for the row that isn't there."""
+    return f", as {miss.from_set} ({', '.join(miss.from_columns)}) asks for it" if miss.from_columns else ""
+
+
+def _of_group(miss: Miss) -> str:
+    """What rows missed, without their texts."""
+    columns = ", ".join(miss.columns)
+    if miss.kind == "unread":
+        return f"no rule reads {miss.set}"
+    if miss.kind == "condition":
+        return f"{columns} is not {miss.test}"
+    return f"no row of {miss.set} has their {columns}{_asked(miss)}"

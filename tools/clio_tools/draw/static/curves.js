@@ -71,7 +71,7 @@ export function drawCurves() {
       group.classList.toggle("selected", index === chosen);
       group.classList.toggle("because", model.because.has(index));
       const way = line.by[line.columns.indexOf(column)], label = [line.conversion, way && `by ${way}`].filter(Boolean).join(" ");
-      if (label) group.append(s("text", { x: frame.width - 10, y: to.y - 4, "text-anchor": "end" }, label));
+      if (label && to.seen) group.append(s("text", { x: frame.width - 10, y: to.y - 4, "text-anchor": "end" }, label));
       if (index === chosen || model.because.has(index)) made.push(group); else made.unshift(group);
     }
     drawn += any;

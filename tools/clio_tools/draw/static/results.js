@@ -78,35 +78,37 @@ async function showSources() {
   const lost = tables.reduce((sum, table) => sum + table.unused, 0);
   title("sources", lost ? `${lost} not used` : null);
   const where = h("aside", { class: "why", hidden: true, "aria-label": "Where a row goes", tabindex: -1 });
-  fill(panels.sources, h("div", { class: "tables" }, h("p", { class: "note" }, "A row tells where it goes. A row that no rule uses is grey, with the reason."),
+  fill(panels.sources, h("div", { class: "tables" }, h("p", { class: "note" }, "Click a row to see where it goes. A row that no rule uses is grey, with the reason."),
     tables.map((table) => sourceTable(table, where))), where);
 }
 
 function sourceTable(table, where) {
-  const body = h("tbody", {}, table.rows.map((row) => {
-    const act = () => forward(table, row, made, where);
+  const body = h("tbody", {}, table.rows.map((row, number) => {
+    const act = () => forward(table, number, made, where);
     const made = h("tr", { class: row.why ? "unused" : "", onclick: act },
       h("td", { class: "why-cell" }, h("button", { "aria-label": `Where does this row of ${table.name} go: ${row.cells.join(", ").slice(0, 80)}`, onclick: (event) => { event.stopPropagation(); act(); } }, row.why ? "–" : "→")),
       row.cells.map((text) => h("td", { title: text.length > 30 ? text : null }, text === "" ? h("span", { class: "empty" }, "empty") : text)), h("td", { class: "reason" }, row.why ?? ""));
     return made;
   }));
-  const notes = [table.unused > 0 && `${table.unused} not used`, table.failing > 0 && `${table.failing} more don't pass the conditions`, table.repeats > 0 && `${table.repeats} repeat another`, table.made_up && "made up"].filter(Boolean).join(", ");
+  const notes = [table.unused > 0 && `${table.unused} not used`, !table.counted && "of the first 20,000", table.repeats > 0 && `${table.repeats} repeat another`, table.made_up && "made up"].filter(Boolean).join(", ");
   return h("section", { class: "target-table", "data-source": table.name, "aria-label": `${table.name}, ${counted(table.count, "row")}` }, h("h3", {}, table.name, h("span", {}, ` ${counted(table.count, "row")}${notes && ` (${notes})`}`)),
+    table.groups.map((group) => h("p", { class: "group" }, `${counted(group.count, "row is", "rows are")} not used: ${group.says} `, cureButtons(group.cures))),
     h("div", { class: "scroll" }, h("table", {}, h("thead", {}, h("tr", {}, h("th"), table.columns.map((column) => h("th", { scope: "col" }, column)), h("th", {}, table.unused ? "why not used" : ""))), body)));
 }
 
-async function forward(table, row, element, box) {
+async function forward(table, number, element, box) {
   document.querySelectorAll("tr.selected").forEach((one) => one.classList.remove("selected"));
   element.classList.add("selected");
-  const found = await ask("forward", { whole: kept.whole, run: kept.run, table: table.name, row: row.number });
+  const found = await ask("forward", { whole: kept.whole, run: kept.run, table: table.name, row: number });
   box.hidden = false;
   const close = h("button", { class: "close", "aria-label": "Close", onclick: () => { box.hidden = true; because([]); element.classList.remove("selected"); element.querySelector("button").focus(); } }, "×");
   if (found.error) { fill(box, close, found.error); return; }
-  const rules = [...new Set(found.rows.flatMap((one) => one.rules))];
+  const rules = found.rules;
   fill(box, close, h("p", {}, h("strong", {}, "Where it goes")), sourceRow(found.row),
-    row.why ? h("p", {}, `Nowhere: ${row.why}. A row counts only together with the rows that its refs lead to, unless the ref is optional.`) : null,
-    found.ref !== null && h("button", { onclick: () => edit({ do: "optional", side: "source", set_name: table.name, index: found.ref, wanted: true }, "the ref is optional now") }, "make this ref optional"),
-    found.rows.map((one) => h("p", { class: "step" }, h("span", { class: "made-row" }, h("strong", {}, one.table), "(", cells(one.cells), ")"), ` by rule ${one.rules.join(", ")}`)), found.more && h("p", { class: "empty" }, "and more"));
+    found.misses.length > 0 && h("p", {}, "Nowhere: no rule uses it."), found.misses.map((lines) => lines.map((line) => h("p", {}, line))),
+    found.cures.length > 1 && h("p", {}, "It is kept by these changes together:"), cureButtons(found.cures),
+    found.count > 0 && h("p", {}, `It is in ${counted(found.count, "match", "matches")}, which ${found.count === 1 ? "asks" : "ask"} for:`),
+    found.rows.map((one) => h("p", { class: "step" }, h("span", { class: "made-row" }, h("strong", {}, one.table), "(", cells(one.cells), ")"), ` by rule ${one.rule}`)));
   because(rules.flatMap((rule) => kept.rules[rule]?.words?.lines ?? []).filter((index) => model.outline.lines[index]?.columns.some(([set]) => set === table.name)), rules[0] ?? null);
   box.focus({ preventScroll: true });
 }
@@ -122,7 +124,7 @@ function sourceNote(live) {
   const made = told.filter((one) => one.kind === "made up").map((one) => one.file), taken = told.filter((one) => one.kind === "sample");
   return [made.length > 0 && `${made.join(", ")} ${made.length === 1 ? "isn't" : "aren't"} in the folder: rows are made up. `,
     taken.length > 0 && `The files are large: of each the first rows are taken, with those that they lead to (${taken.slice(0, 3).map((one) => `${one.rows.toLocaleString("en")} of ${one.of.toLocaleString("en")} of ${one.file}`).join(", ")}${taken.length > 3 ? `, and so of ${taken.length - 3} more` : ""}). What only other rows do, a clash too, isn't seen here, and nulls have other numbers than in a whole run. `,
-    "A row tells why it is there."].filter(Boolean).join("");
+    "Click a row to see why it is there."].filter(Boolean).join("");
 }
 
 // The tables of the target. A table that is as it was keeps its element; of many tables those are made that come into sight.
@@ -189,14 +191,13 @@ async function why(name, row, element) {
   const head = h("p", { class: "made-row" }, h("strong", {}, name), "(", cells(row), ")");
   if (found.error || found.unknown) { fill(box, close, head, h("p", {}, found.error ?? found.unknown)); return; }
   const rules = found.rules;
-  const keysMade = found.different > 1 ? ` ${found.different} rows that rules ask for became this one.` : "";
   fill(box, close, head,
-    h("p", {}, `It is there because ${rules.length === 1 ? `rule ${rules[0]} asks` : `rules ${rules.join(", ")} ask`} for it.${keysMade}`),
+    h("p", {}, `${counted(found.count, "match asks", "matches ask")} for it, by ${rules.length === 1 ? `rule ${rules[0]}` : `rules ${rules.join(", ")}`}.`),
     h("table", { class: "cells" }, h("tbody", {}, found.cells.map((one) => h("tr", {}, h("th", { scope: "row" }, one.column), h("td", {}, cell(one.text)), h("td", {}, cellWords(one)))))),
     h("h3", {}, "The rules that ask for it"),
     ...found.asked.slice(0, 3).map((one) => askedBy(one)),
-    found.asked.length > 3 && h("details", {}, h("summary", {}, `${found.asked.length - 3} more`), found.asked.slice(3).map((one) => askedBy(one))), found.more && h("p", { class: "empty" }, "and more matches"),
-    found.merges.length > 0 && h("h3", {}, "What took the place of its nulls"), ...found.merges.map(stepOf));
+    found.asked.length > 3 && h("details", {}, h("summary", {}, `${found.asked.length - 3} more`), found.asked.slice(3).map((one) => askedBy(one))), found.count > found.asked.length && h("p", { class: "empty" }, `and ${counted(found.count - found.asked.length, "more match", "more matches")}`),
+    found.replaced.length > 0 && h("h3", {}, "What took the place of its nulls"), ...found.replaced.map(stepOf));
   box.focus({ preventScroll: true });
   const lines = rules.flatMap((rule) => kept.rules[rule]?.words?.lines ?? []).filter((index) => model.outline.lines[index]?.target[0] === name);
   because(lines, found.asked[0].rule);
@@ -206,8 +207,12 @@ async function why(name, row, element) {
 }
 
 // Where the text of a cell is from.
-const cellWords = (one) => ({ is: () => [h("code", {}, one.says), ` (${one.where}), rule ${one.rule}`], text: () => `a text of the mapping, rule ${one.rule}`, open: () => "nobody gave it",
-  link: () => "nobody gave it", merged: () => "in the place of a null: see below" }[one.kind]());
+const cellWords = (one) => {
+  const line = one.line === null ? null : h("button", { class: "badge", title: "selects the line", onclick: () => select({ kind: "line", index: one.line }) }, "line");
+  const by = [" by rule ", one.rule, line && [", ", line], one.instead_of && [", in the place of ", cell(one.instead_of)]];
+  if (one.kind === "open") return [`nobody gave it: rule ${one.rule} left it open`, one.shared.length > 1 && `; it links ${one.shared.join(", ")}`];
+  return one.kind === "literal" ? ["a text of the mapping", by] : [h("code", {}, one.says), ` (${one.where})`, by];
+};
 
 function askedBy(one) {
   const rule = kept.rules[one.rule];
@@ -221,12 +226,15 @@ export const sourceRow = (row) => h("div", { class: "source-row" }, h("span", { 
   row.cells.flatMap(([name, text], place) => [place ? ", " : "", name, " = ", text === "" ? h("span", { class: "empty" }, "empty") : h("b", {}, text)]));
 
 function stepOf(step) {
-  if (step.by === "core") return h("div", { class: "step" }, h("p", {}, cell(step.null), " is ", cell(step.value), ": core mode left the first out, since rows with the second say all that its rows say."));
+  if (step.by === "unknown") return h("div", { class: "step" }, h("p", {}, cell(step.null), " is ", cell(step.value), ": the way there is too long to be looked for."));
+  if (step.by === "core") return h("div", { class: "step" }, h("p", {}, cell(step.null), " is ", cell(step.value), ": core mode left the first out, since the row with the second says all that its row says."), step.rows.map(stepRow(step)));
   const agreed = step.columns.flatMap((name, place) => [place ? ", " : "", name, " = ", cell(step.agreed[place])]);
   return h("div", { class: "step" },
     h("p", {}, cell(step.null), " is ", cell(step.value), `, since two rows of ${step.set} agree on ${step.by === "key" ? "its key" : "what it depends on,"} (${step.columns.join(", ")}): `, agreed),
-    step.rows.map((row) => [h("p", { class: "made-row" }, `${step.set}(`, cells(row.row), `) by rule ${row.rule}, from`), (row.matches[0] ?? []).map(sourceRow)]));
+    step.rows.map(stepRow(step)));
 }
+
+const stepRow = (step) => (row) => [h("p", { class: "made-row" }, `${step.set}(`, cells(row.row), `) by rule ${row.rule}, from`), (row.matches[0] ?? []).map(sourceRow)];
 
 // The rules in words.
 let shownRules = "";
