@@ -7,7 +7,7 @@
 
 The text has the tables with their columns, keys and refs, as the catalog of the database has them, or the headers of
 the files, or the members of the objects. A name that is no word of a mapping text becomes one; a comment says which.
-What can't be said stands as a comment with the reason: a ref of a table to itself, or one that closes a circle; a table
+What can't be said is a comment with the reason: a ref of a table to itself, or one that closes a circle; a table
 with more than 64 columns; a column of bytes. Two sides and some lines make a mapping:
 
     (echo 'mapping 1;'; clio-draft sqlite old.db --data .; clio-draft sqlite new.db --side target; cat lines) \\
@@ -23,7 +23,7 @@ each way that there is.
 
 `--data FOLDER` writes the source's files into the folder, as clio reads them: NULL as the empty text, numbers as their
 digits. Remarks on standard error say what a reader should know: NULL beside empty texts in a column, rows that a ref
-doesn't match, a limit that is passed.
+doesn't match, a limit that is exceeded.
 
 `--mapping FILE` writes the data for the sets that a mapping text declares, with the columns in their order, and prints
 nothing. So a file with its columns in another order, or a database with more tables, is read by a mapping that is

@@ -12,7 +12,7 @@ All other values are texts, as clio-draft writes them (numbers as their digits),
 begins with `?`.
 
 OPTIONS `--surrogate SET.COLUMN` says that the values of this column are made up, as numbers from a sequence are: each
-becomes a null, the same one wherever it stands in the column, and in the columns that a ref of the mapping links to it.
+becomes a null, the same one wherever it is in the column, and in the columns that a ref of the mapping links to it.
 It can be given several times.
 
 `--mapping FILE` is another mapping text than mapping.clio, and `--into FOLDER` another folder than given.

@@ -8,22 +8,22 @@ before clio-tables. The same thing gets the same number in each run, a new one a
 CROSSWALK, an SQLite file, which is made by the first run.
 
 If the row of a null (the one in which it is itself a key, or is referred to) has another key of texts, that alone
-decides which thing it is; in a key the number of a thing stands for its null. So the `cid` of a customer is known by
+decides which thing it is; in a key the number of a thing replaces its null. So the `cid` of a customer is known by
 the customer's name if that is a key. With several keys the first one that is known decides, and a thing has one value
 of each key at a time: that of the last run. A null without such a row is known by the keys of the rows in which it
-stands; one that has none of these either by the text of its rule and the values that nulls.csv has, and so for each
+is; one that has none of these either by the text of its rule and the values that nulls.csv has, and so for each
 null that became this one (fold.csv), for which the source files are read again. What was known by a later name alone
 keeps its number when it gets a surer one. If two things become one, one of their numbers stays. A number is never given
 to a second thing.
 
-A null becomes a number if it stands in a column of a key or a ref that has nulls alone when it first has rows; that is
+A null becomes a number if it is in a column of a key or a ref that has nulls alone when it first has rows; that is
 kept for later runs. `--number` and `--keep` decide it by hand, and may be repeated. Each other null is a value that
 nobody knows: it stays one, and gets a name that stays, ?999.0.N with N from the same numbers. Rows are written in
-clio's order. In nulls.csv the first column has the new names and is called `id`; in fold.csv they stand in the second.
+clio's order. In nulls.csv the first column has the new names and is called `id`; in fold.csv they are in the second.
 With `--nested` the documents are rewritten too.
 
 It prints how many nulls had a number, how many are new, and in how many rows that are known by a key another thing
-stands in a column than when they were there last, with the first ten of these: `sale.c of (n) ["2"]: 2 is now 3`.
+is in a column than when they were there last, with the first ten of these: `sale.c of (n) ["2"]: 2 is now 3`.
 
 The crosswalk is changed before the files are, and each file is replaced as a whole. If it is stopped in between, the
 next run says so: run `clio exchange` again, and the numbers are the same. Run twice, it changes nothing. It refuses a

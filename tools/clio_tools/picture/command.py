@@ -5,10 +5,10 @@
 It draws the mapping.clio of FOLDER, or of the current folder: on the left the sets of the source, on the right those of the target, inner sets inside
 theirs, with their keys, and with their dependencies below the columns; refs beside the boxes, with a tip where they lead to, optional ones with dashes;
 lines from column to column, with the conversion or the text on them; and beside a column of the source what a condition asks of it, like "only filled".
-The sets stand in an order in which few lines cross. Below are the rules that are written by hand, each as a figure: the sets that it asks for, the
+The sets are in an order in which few lines cross. Below are the rules that are written by hand, each as a figure: the sets that it asks for, the
 sets that it makes, and what its variables join.
 
-A browser shows it, light or dark as it is set; under the pointer a line stands out, and its text in the mapping is told. It has no script and loads
+A browser shows it, light or dark as it is set; under the pointer a line stands out, and its text in the mapping is shown. It has no script and loads
 nothing. A mapping that clio refuses is refused with clio's message; `clio-explain show` says more. It is not proved, but has tests.
 """
 import os

@@ -16,7 +16,7 @@ puts a table of yours there; clio-tables source loads files. What is turned into
     m.c0, 'text' in an INSERT      the text as clio writes it: one that begins with ? gets one ? more
     INSERT INTO ..                 of rows that are not there yet
 
-The steps stand one on a line, as clio writes them. The target then has what clio's target has before keys make rows one, and in core mode before rows are folded into others.
+There is one step on each line, as clio writes them. The target then has what clio's target has before keys make rows one, and in core mode before rows are folded into others.
 This tool is not proved; dev/check compares what it makes with what clio makes, on the examples.
 """
 import re

@@ -10,7 +10,7 @@ into the folder out: run them in the folder of the mapping. Each file is read fi
 columns than the mapping, a record of another width, or other rows than the summary says (`--summary FILE`, or `-` for
 standard input), the tool says so and prints nothing. `source` makes the tables of the source in PostgreSQL, in the
 schema `source`, for a script that clio-script-to-postgres turned, and loads the source files, read as clio reads them;
-rows that don't pass the mapping's conditions are left out. The last word is the mapping text; mapping.clio if it is
+rows that fail the mapping's conditions are left out. The last word is the mapping text; mapping.clio if it is
 left out.
 
 The texts stay as clio wrote them: a null is ?rule.variable.place, and a text that begins with ? has one ? more. So the
