@@ -51,6 +51,9 @@ Rows = list[tuple[str, ...]]
 class Place(Protocol):
     """Where clio-sql works: the source is loaded there, and the target read."""
 
+    def takes(self, names: list[str]) -> bool:
+        """Whether tables of a side can have these names."""
+
     def load(self, folder: pathlib.Path) -> None:
         """Loads the source files of a folder."""
 
@@ -66,6 +69,9 @@ class OneServer:
 
     def __init__(self, connection: str, sessions: int = 1) -> None:
         self.connection, self.sessions, self.session = connection, sessions, Session(connection)
+
+    def takes(self, names: list[str]) -> bool:
+        return True
 
     def load(self, folder: pathlib.Path) -> None:
         tables, rows = source_of(folder)
@@ -116,7 +122,10 @@ class SeveralServers(OneServer):
 
 
 class Files:
-    """Two files of SQLite."""
+    """Two files of SQLite, which tells no capitals."""
+
+    def takes(self, names: list[str]) -> bool:
+        return len({name.lower() for name in names}) == len(names)
 
     def load(self, folder: pathlib.Path) -> None:
         for name in "source.db", "target.db":
@@ -170,6 +179,9 @@ class Compared:
         if status not in (0, 3):
             return ""
         self.mapping = Mapping((self.folder / "mapping.clio").read_text(encoding="utf-8"))
+        sides = [[table.name for table in side] for side in (self.mapping.source, self.mapping.target)]
+        if not all(map(self.place.takes, sides)):
+            return ""
         written_too = [Written("nulls", "null", "variable", "value"), Written("fold", "null", "value")]
         self.tables = [*self.mapping.target, *written_too]
         tables, said = self.made()

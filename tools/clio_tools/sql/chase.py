@@ -218,35 +218,50 @@ class Collapse:
         table, one = self.table, self.one
         by = table.listed(one.left)
         grouped = f" GROUP BY {', '.join(by)}" if by else " HAVING count(*) > 0"
-        query = f"SELECT {', '.join(by + one.least_and_greatest())} FROM ({table.query(distinct=False)}) AS t{grouped}"
-        groups = self.work.made("g", query, by, f"key of {table.name}")
-        many, filled = self.found(groups)
+        counts = [f"count(n{place}) AS k{place}" for place in self.opens]
+        shown = ", ".join(by + one.least_and_greatest() + counts)
+        groups = self.work.made("g", f"SELECT {shown} FROM ({table.query(distinct=False)}) AS t{grouped}", by,
+                                f"key of {table.name}")
+        many, two, filled = self.found(groups)
         queries = [f"SELECT n{place} AS u, {NO_NULL} AS n, c{place} AS c FROM {groups}"
                    f" WHERE c{place} IS NOT NULL AND n{place} = x{place}" for place in filled]
+        queries += [query for place in two for query in self.of_two(groups, place)]
         queries += [query for place in many for query in self.of_many(groups, place)]
-        heads = table.all_heads(many), any(table.cells[place].texts for place in {*many, *filled})
-        before = table.all_heads([*many, *filled])
+        heads = table.all_heads(many + two), any(table.cells[place].texts for place in {*many, *two, *filled})
+        before = table.all_heads([*many, *two, *filled])
         self.settle(groups)
         if not queries:
             return None
         gone = self.work.made("gone", " UNION ALL ".join(queries), ["u"], f"nulls of {table.name} that went")
         return part_of(self.work, gone, before, *heads)
 
-    def found(self, groups: str) -> tuple[list[int], list[int]]:
-        """The columns in which some group has several nulls, and those in which some has a null and a constant."""
+    def found(self, groups: str) -> tuple[list[int], list[int], list[int]]:
+        """The columns in which some group has more than two nulls, other ones in which some has two, and those in
+        which some has a null and a constant."""
         any_of = "max(CASE WHEN {} THEN 1 ELSE 0 END)".format
         cells = self.table.cells
         texts = [place for place in self.one.right if cells[place].texts]
         both = [place for place in self.opens if cells[place].texts]
         clash = [any_of(" OR ".join(f"c{place} <> z{place}" for place in texts))] if texts else ["0"]
-        several = [any_of(f"n{place} <> x{place}") for place in self.opens]
+        several = [f"max(CASE WHEN n{place} <> x{place} THEN k{place} ELSE 0 END)" for place in self.opens]
         mixed = [any_of(f"n{place} IS NOT NULL AND c{place} IS NOT NULL") for place in both]
-        assumed = (0, *[1] * (len(several) + len(mixed)))
+        assumed = (0, *[3] * len(several), *[1] * len(mixed))
         row = self.work.row(f"SELECT {', '.join(clash + several + mixed)} FROM {groups}", assumed)
         if row[0]:
             self.one.check_clash(self.work, groups)
-        return ([place for place, one in zip(self.opens, row[1:]) if one],
+        most = {place: int(one or 0) for place, one in zip(self.opens, row[1:])}
+        return ([place for place in self.opens if most[place] > 2], [place for place in self.opens if most[place] == 2],
                 [place for place, one in zip(both, row[1 + len(self.opens):]) if one])
+
+    def of_two(self, groups: str, place: int) -> list[str]:
+        """What went in a column of groups with two nulls at most: the greater one, and both if there is a constant."""
+        n, c = f"n{place}", self.table.words.no_text
+        if not self.table.cells[place].texts:
+            return [f"SELECT x{place} AS u, {n} AS n, {c} AS c FROM {groups} WHERE {n} <> x{place}"]
+        least = f"CASE WHEN c{place} IS NULL THEN {n} END"
+        return [f"SELECT x{place} AS u, {least} AS n, c{place} AS c FROM {groups} WHERE {n} <> x{place}",
+                f"SELECT {n} AS u, {NO_NULL} AS n, c{place} AS c FROM {groups}"
+                f" WHERE {n} <> x{place} AND c{place} IS NOT NULL"]
 
     def of_many(self, groups: str, place: int) -> list[str]:
         """What went in a column of groups with several nulls, which are joined back to their rows."""

@@ -3,7 +3,7 @@ from collections.abc import Sequence
 
 from clio_tools.sql.script import Insert, Script
 from clio_tools.sql.stars import Part
-from clio_tools.sql.tables import SHIFT, Heads, Table, code, head_of
+from clio_tools.sql.tables import SHIFT, Heads, Table, code
 from clio_tools.sql.words import Words, quoted
 from clio_tools.sql.work import Work
 
@@ -24,12 +24,11 @@ class Names:
         return quoted(f"?{self.heads.nulls[number].rule}.{self.heads.nulls[number].variable}.")
 
     def null(self, number: str, heads: set[int]) -> str:
-        """The name of a null whose head is one of some."""
-        if len(heads) == 1:
-            head = next(iter(heads))
-            return f"{self.head(head)} || ({number} - {head * SHIFT})"
-        whens = " ".join(f"WHEN {head} THEN {self.head(head)}" for head in sorted(heads))
-        return f"CASE {head_of(number)} {whens} END || ({number} % {SHIFT})"
+        """The name of a null whose head is one of some; the numbers of a head are below those of the next."""
+        named = [f"{self.head(head)} || ({number} - {head * SHIFT})" for head in sorted(heads)]
+        ends = [(head + 1) * SHIFT for head in sorted(heads)[:-1]]
+        whens = " ".join(f"WHEN {number} < {end} THEN {name}" for end, name in zip(ends, named))
+        return f"CASE {whens} ELSE {named[-1]} END" if whens else named[0]
 
     def cell(self, c: str, n: str, texts: bool, heads: set[int]) -> str:
         """A cell as clio writes it."""
