@@ -85,9 +85,9 @@ part_stands tables start (q ∷ ps) end (suc k) i l h a b c =
 
 -- the demands of a part are those of the rows of its table for its determination
 pub adds_part : (tables : List ChaseTable) (t c : ℕ) (old new : List Demand) → t < length tables → c < determination_count tables t
-    → new ≡ old ++ map (demand_of tables t c) (range_with_len 0 (row_count tables t)) → AddsTo tables (λ u e s. (u ≡ t) × (e ≡ c)) old new
+    → new ≡ old ++ map (demand_of tables t c) (range_with_len 0 (row_count tables t)) → AddsTo tables (λ u e. (u ≡ t) × (e ≡ c)) old new
 adds_part tables t c old new h k q = rw q (record {
-  all = λ u e s w i. in_right old (made u e s w.0 w.1 i);
+  all = λ u e w i l. record { by = e; inside = l; same = refl; all = λ s j. in_right old (made u e s w.0 w.1 j) };
   stays = λ x m. in_left (map (demand_of tables t c) (range_with_len 0 (row_count tables t))) m;
   either = λ x m. elim (from_append old m) [
     | inl l ↦ inl l

@@ -3,8 +3,12 @@ ghost use Rattle.std.specs.Prelude.{◌≡◌, ◌<◌, ◌≤◌, ◌+◌, IfOk
 ghost use Rattle.dx_base.specs.Members.{Each};
 ghost use Rattle.dx_chase.specs.Joins.{demand_at};
 ghost use Rattle.dx_chase.specs.Parts.{LieFrom, demands_in, chase_part_at, picked};
+ghost use Rattle.dx_chase.specs.Repeats.{AreAdded, columns_listed};
 ghost use Rattle.dx_chase.specs.Rows.{AddsRows, AddsTable, AreRowDemands, ColumnsFit, determination_columns, determination_count, number_row, row_count};
 
+use crate::classes::append;
+use crate::index::Index;
+use crate::numbers::NumberList;
 use crate::tables::{Columns, NumberTable};
 use dx_base::no_number_left;
 use std::alloc::{AllocError, Global};
@@ -185,8 +189,49 @@ fn add_rows(
     Ok(end)
 }
 
+// The columns of a determination as one list.
+fn column_list(alloc: Global, columns: &Columns) -> Result<NumberList, AllocError>
+    ensures { IfOk result (λ all. all ≡ columns_listed columns.now) }
+{
+    let left = columns.left.items();
+    let mut all = NumberList::new(alloc);
+    all.push(short(left.len())?)?;
+    append(&mut all, left)?;
+    append(&mut all, columns.right.items())?;
+    Ok(all)
+}
+
+// The same as `add_rows`, but nothing for a determination that repeats one that is there.
+fn add_unless_there(
+    alloc: Global,
+    tables: &[NumberTable<'_>],
+    table: u32,
+    determination: u32,
+    there: &mut Index,
+    parts: &mut Vec<Part>,
+    count: u64,
+) -> Result<u64, AllocError>
+    requires table { table < length tables.now }
+    requires determination { determination < determination_count tables.now table }
+    requires parts { AreAdded tables.now table parts.old.items there.old count }
+    ensures adds { OnOk result (AddsRows tables.now table determination (demands_in tables.now parts.old.items)
+        (demands_in tables.now parts.new.items)) }
+    ensures parts { IfOk result (AreAdded tables.now table parts.new.items there.new) }
+{
+    let columns = column_list(alloc, columns_of(tables, table, determination))?;
+    match there.find(&columns) {
+        Some(_) => Ok(count),
+        None => {
+            let end = add_rows(tables, table, determination, parts, count)?;
+            there.set(columns, u64::from(determination))?;
+            Ok(end)
+        }
+    }
+}
+
 // What all rows of a table owe, after the demands below `count`. How many demands there are then.
 fn add_table(
+    alloc: Global,
     tables: &[NumberTable<'_>],
     table: u32,
     parts: &mut Vec<Part>,
@@ -199,10 +244,11 @@ fn add_table(
     ensures lie { IfOk result (LieFrom tables.now 0 parts.new.items) }
 {
     let total = determination_total(tables, table);
+    let mut there = Index::with_capacity(alloc, 0)?;
     let mut end = count;
     for d in 0..total {
         let determination = short(d)?;
-        end = add_rows(tables, table, determination, parts, end)?;
+        end = add_unless_there(alloc, tables, table, determination, &mut there, parts, end)?;
     }
     Ok(end)
 }
@@ -223,7 +269,7 @@ pub fn demands_of<'a, 't>(
     let mut count = 0u64;
     for t in 0..tables.len() {
         let table = short(t)?;
-        count = add_table(tables, table, &mut parts, count)?;
+        count = add_table(alloc, tables, table, &mut parts, count)?;
     }
     Ok(Demands {
         tables,

@@ -5,6 +5,6 @@ use Rattle.dx_chase.proofs.asked.demands_of.Given as goal
 
 abbrev pub invariant-loop-t : goal.invariant-loop-t
 invariant-loop-t l = record {
-  adds : AddsTo l.tables (λ t c r. t < l.t) [] (demands_in l.tables l.parts.items);
+  adds : AddsTo l.tables (λ t c. t < l.t) [] (demands_in l.tables l.parts.items);
   lie : LieFrom l.tables 0 l.parts.items l.count;
 }
