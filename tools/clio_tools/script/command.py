@@ -3,8 +3,9 @@
     clio-script-to-postgres < out/script.sql > run.sql
     clio show | grep -v '^rule ' | clio-script-to-postgres > run.sql
 
-run.sql reads the tables of the schema `source` and makes those of the schema `target`; match tables and functions are in
-the schema `clio`, which it makes anew, and which can be dropped afterwards. A source table's columns are texts and never NULL:
+run.sql reads the tables of the schema `source` and makes those of the schema `target`; match tables and functions are
+in the schema `clio`, which it makes anew, and which can be dropped afterwards. A source table's columns are texts and
+never NULL:
 
     CREATE VIEW source."emp" AS SELECT coalesce(name::text, '') AS "name" FROM hr.employee;
 
@@ -16,8 +17,9 @@ puts a table of yours there; clio-tables source loads files. What is turned into
     m.c0, 'text' in an INSERT      the text as clio writes it: one that begins with ? gets one ? more
     INSERT INTO ..                 of rows that are not there yet
 
-There is one step on each line, as clio writes them. The target then has what clio's target has before keys make rows one, and in core mode before rows are folded into others.
-This tool is not proved; dev/check compares what it makes with what clio makes, on the examples.
+There is one step on each line, as clio writes them. The target then has what clio's target has before keys make rows
+one, and in core mode before rows are folded into others. This tool is not proved; dev/check compares what it makes with
+what clio makes, on the examples.
 """
 import re
 import sys
@@ -43,11 +45,12 @@ CREATE FUNCTION clio.written(value text) RETURNS text LANGUAGE sql IMMUTABLE
 CREATE FUNCTION clio."trim"(value text) RETURNS text LANGUAGE sql IMMUTABLE AS $$ SELECT btrim(value, ' ') $$;
 CREATE FUNCTION clio."digits"(value text) RETURNS text LANGUAGE sql IMMUTABLE
   AS $$ SELECT regexp_replace(value, '[^0123456789]', '', 'g') $$;
-CREATE FUNCTION clio."pair"(one text, other text) RETURNS text LANGUAGE sql IMMUTABLE AS $$ SELECT one || ' ' || other $$;
+CREATE FUNCTION clio."pair"(one text, other text) RETURNS text LANGUAGE sql IMMUTABLE
+  AS $$ SELECT one || ' ' || other $$;
 """
 
 
-def split(text):
+def split(text: str) -> list[str]:
     """The parts of a list at the commas that stand in no parentheses and no quotes."""
     parts, depth = [""], 0
     for piece in re.findall(r"'(?:[^']|'')*'|\"[^\"]+\"|.", text, re.DOTALL):
@@ -59,7 +62,8 @@ def split(text):
     return [part.strip() for part in parts]
 
 
-def match_rows(table, query, select):
+def match_rows(table: str, query: str, select: str) -> str:
+    """The statement that makes a match table, with the places of its rows."""
     columns = re.findall(r" AS (c[0-9]+)", select)
     if not columns:
         return f"CREATE TABLE {table} AS SELECT 0::bigint AS place FROM ({query}) AS d;"
@@ -67,7 +71,8 @@ def match_rows(table, query, select):
     return f"CREATE TABLE {table} AS SELECT *, row_number() OVER (ORDER BY {order}) - 1 AS place FROM ({query}) AS d;"
 
 
-def insert_rows(target, outs, table, filled):
+def insert_rows(target: str, outs: str, table: str, filled: set[str]) -> str:
+    """The statement that puts the rows of a match table into a table of the target."""
     cells = ", ".join(out if out.startswith("SKOLEM") else f"written({out})" for out in split(outs))
     if target not in filled:
         filled.add(target)
@@ -75,20 +80,21 @@ def insert_rows(target, outs, table, filled):
     return f"INSERT INTO {target} (SELECT {cells} FROM {table} AS m EXCEPT SELECT * FROM {target});"
 
 
-def turned(step, filled):
+def turned(step: str, filled: set[str]) -> str:
     """What PostgreSQL runs for a step, when rows were already put into the tables `filled`."""
     if found := MATCH.fullmatch(step):
-        return f"{match_rows(*found.groups())}\nANALYZE {found.group(1)};"
+        return f"{match_rows(found[1], found[2], found[3])}\nANALYZE {found.group(1)};"
     if found := INSERT.fullmatch(step):
-        return insert_rows(*found.groups(), filled)
+        return insert_rows(found[1], found[2], found[3], filled)
     if KEEP.fullmatch(step) or CREATE.fullmatch(step):
         return step
     raise Refused(f"this is no step of a script that clio writes: {step[:200]}")
 
 
-def work(words):
+def work(words: list[str]) -> None:
     if words:
-        raise Refused("usage: clio-script-to-postgres < script.sql > run.sql; the manual is man clio-script-to-postgres")
+        raise Refused("usage: clio-script-to-postgres < script.sql > run.sql;"
+                      " the manual is man clio-script-to-postgres")
     try:
         steps = sys.stdin.buffer.read().decode("utf-8").split("\n")
     except UnicodeDecodeError as error:
@@ -96,10 +102,10 @@ def work(words):
     for name in re.findall(r"\"([^\"]+)\"", "".join(re.sub(r"'(?:[^']|'')*'", "", step) for step in steps)):
         if len(name) > 63:
             raise Refused(f"PostgreSQL cuts the name {name} after 63 letters")
-    filled = set()
+    filled: set[str] = set()
     turned_steps = [turned(step, filled) for step in steps if step]
     print(HEAD + "\n".join(turned_steps))
 
 
-def main():
+def main() -> None:
     run("clio-script-to-postgres", work)
