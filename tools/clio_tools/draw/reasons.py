@@ -1,5 +1,5 @@
-"""Why a row is in the target, and where a source row goes or what it missed: the reasons of clio_tools.why as data for the
-page, with the places in the whole files, and the lines of the page's text."""
+"""Why a row is in the target, and where a source row goes or what it missed: the reasons of clio_tools.why as data for
+the page, with the places in the whole files, and the lines of the page's text."""
 import pathlib
 from collections.abc import Iterator
 

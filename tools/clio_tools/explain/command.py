@@ -12,7 +12,8 @@ more on standard error, each text in quotes, cut if it is long, and without cont
                          document; the field that is no value
     clash: ..            all clashes, each with the source rows behind its texts, and how keys made the nulls in its key
                          equal; what of the mapping makes the first one
-    limit: ..            which sets, lines, refs or rules exceed it, how large it is, and what to do, in at most 40 lines
+    limit: ..            which sets, lines, refs or rules exceed it, how large it is, and what to do, in at most 40
+                         lines
     read fault: ..       the reason of the system
     write fault: ..      which file, and the reason of the system
     out of memory        how much there is

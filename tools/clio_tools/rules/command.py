@@ -50,9 +50,9 @@ several, or `up` to the outer row. Without `by`, and behind the steps that are s
 if there are several, it is refused, with all of them. A line from a whole set is for a column with a ref, which then
 leads to the row made of that D; without such a line a ref that nothing fills goes the only way there is.
 
-`from` is for the rows from one set alone. `where` is for rows that satisfy all tests: a text, `filled` or `numeric`. A ref
-in a circle can be in a drawing; the printed mapping leaves it out. In a rule, columns that aren't named are open; `id`
-and `up` are the columns `#id` and `#up`. Sets without `rows` keep what lines say. No word is reserved.
+`from` is for the rows from one set alone. `where` is for rows that satisfy all tests: a text, `filled` or `numeric`. A
+ref in a circle can be in a drawing; the printed mapping leaves it out. In a rule, columns that aren't named are open;
+`id` and `up` are the columns `#id` and `#up`. Sets without `rows` keep what lines say. No word is reserved.
 
 WHAT IT MEANS
 A way from a row is a list of refs (or `up`); the row at its end is any that agrees on the columns of each step. For R =
