@@ -228,7 +228,8 @@ class Reports(Trial):
         for name, content in [("a.csv", "who,zip\nann,10\n"), ("b.csv", "zip,town\n10,Rome\n"), ("out/rules.txt", b"".join(rules)),
                               ("out/addr.csv", "who,town,zip\nann,Rome,10\n?1.0.0,Rome,10\n"), ("out/fold.csv", "null,value\n?0.0.0,Rome\n")]:
             self.file(name, content)
-        with unittest.mock.patch.object(explain_program, "printed_rules", lambda: rules), contextlib.chdir(self.folder):
+        with (unittest.mock.patch.object(explain_program, "printed_rules", return_value=rules),
+              contextlib.chdir(self.folder)):
             figures = Figures()
             page = "".join([*sections.target(figures), *sections.nulls(figures)])
         self.assertEqual(figures.variables, {(0, 0): {("key", "text"): 1}, (1, 0): {"stay": 1}})
