@@ -2,7 +2,7 @@
 import importlib
 import sys
 
-TOOLS = {name: f"clio-{name}" for name in ("draft", "explain", "given", "ids", "picture", "report", "rules", "sql",
+TOOLS = {name: f"clio-{name}" for name in ("draft", "explain", "given", "ids", "load", "picture", "report", "rules", "sql",
                                            "tables")}
 TOOLS["script"] = "clio-script-to-postgres"
 

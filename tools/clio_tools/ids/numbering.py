@@ -22,8 +22,11 @@ def check_whole(crosswalk: Crosswalk) -> None:
                           f" them: {AGAIN}")
 
 
-def number(tables: list[Set], crosswalk: Crosswalk, chosen: dict[tuple[str, str], bool], nested: bool) -> Naming:
-    """Names the nulls, keeps the names, and rewrites the files."""
+def prepared(tables: list[Set], crosswalk: Crosswalk, chosen: dict[tuple[str, str], bool],
+             nested: bool) -> tuple[Naming, Files, dict[str, bytes]]:
+    """Names the nulls, and writes the files beside those that are there, with their digests; the crosswalk keeps nothing
+    before it is committed.
+    """
     target = Target(tables)
     columns = decided(target, crosswalk, chosen)
     is_written = numbered_nulls(target, columns)
@@ -33,7 +36,17 @@ def number(tables: list[Set], crosswalk: Crosswalk, chosen: dict[tuple[str, str]
     naming.keep()
     files = Files(target, naming.numbers, is_written, crosswalk.base)
     try:
-        crosswalk.commit(files.write(nested))
+        return naming, files, files.write(nested)
+    except BaseException:
+        files.clear()
+        raise
+
+
+def number(tables: list[Set], crosswalk: Crosswalk, chosen: dict[tuple[str, str], bool], nested: bool) -> Naming:
+    """Names the nulls, keeps the names, and rewrites the files."""
+    naming, files, digests = prepared(tables, crosswalk, chosen, nested)
+    try:
+        crosswalk.commit(digests)
         files.replace()
     finally:
         files.clear()

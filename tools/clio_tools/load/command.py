@@ -1,0 +1,212 @@
+"""Brings tables that are there to what the mapping demands.
+
+    clio-load sqlite FILE [OPTION ..]
+    clio-load postgres CONNECTION [SCHEMA] [OPTION ..]
+
+Run it in the folder of mapping.clio. It runs `clio exchange` in a temporary folder, compares the target with the tables
+of the database, and writes what differs, in one transaction: rows that are missing are inserted, those with other
+values changed; what is equal is not written. A table is that of a set's name, a column likewise; names that are no
+words are taken as clio-draft notes them. Columns that the mapping doesn't know keep their values, or get their
+defaults.
+If a text can't become a value of its column's type, or would be altered there, as by rounding, if a column must have a
+value and gets none, or is missing, all such cells are listed, and nothing is changed.
+
+Rows are matched by a key that has a value in each row of the target: the table's primary key if the mapping fills it,
+else a key of the mapping, else another unique key. A table without one is matched by whole rows, and equal ones are
+counted. Tables are written in the order of their foreign keys.
+
+A null is NULL; with `--ids` a surrogate key is its number in the crosswalk of clio-ids (man clio-ids), which is changed
+with the database. New numbers are none that a row in the database has. In columns that are no texts the empty text is
+NULL too.
+
+OPTIONS
+`--ids CROSSWALK` gives surrogate keys their numbers.
+
+`--delete`, `--mark COLUMN` or `--keep` says what becomes of rows that a former load wrote and the target no longer has:
+they are deleted, or COLUMN is set (to true, 1 or the time), or they are kept, which is the default. Rows that no load
+has written are never touched if the target doesn't have them.
+
+`--keep-referred` keeps rows that are to be deleted and to which rows refer that stay; without it such rows are listed,
+and
+nothing is changed. Nothing is deleted by a cascade.
+
+`--adopt` changes rows that no load wrote, and that have the number of a thing in the crosswalk; without it they are
+listed, and nothing is changed, as the number may be another thing's.
+
+`--key TABLE=COLUMN,..` is the key by which the rows of a table are matched; it may be repeated.
+
+`--core` takes the core, as `clio exchange --core`. `--null TEXT` makes NULL of this text, as clio-draft --null has it.
+
+`--out FOLDER --summary FILE` takes the files of an exchange that was run before, with what it printed. Files that are
+older than the sources, were cut, or are of other rules are refused.
+
+`--dry-run` changes nothing, and prints what a load would do: for each table how many rows, in which columns, and five
+of
+each. The status is 1 if the database differs from the target, and else 0. Rows that the target doesn't have are a
+difference too, unless `--others` says that rows which no load wrote are right. `--diff FILE` writes all differences as
+CSV, with or without `--dry-run`: NULL is ? there, and a text that begins with ? has one more.
+
+`--log TABLE` adds a row to a table, which is made if it isn't there: when, which mapping and sources (SHA-256),
+options,
+and how many rows of each table.
+
+`--name NAME` tells the loads of several mappings into the same tables apart: the rows that a load of another name wrote
+are not its own. The name is clio if it is left out.
+
+PLACES
+The record of the rows that loads have written is the table clio_load.written in PostgreSQL, clio_load_written in an
+SQLite file. Sequences are set behind the greatest number; nothing else of the schema is changed. A lock of somebody
+else
+is waited for ten seconds. In PostgreSQL, timestamps without a zone are of UTC in columns that have one. CONNECTION is
+what `psql -d` takes; SCHEMA is public if it is left out.
+
+EXIT STATUS
+0 if all was done, or a dry run found no difference; 1 if it found one; 2 if something was refused. What clio refuses
+ends
+with clio's own status.
+"""
+from __future__ import annotations
+
+import argparse
+import contextlib
+import pathlib
+import sys
+from collections.abc import Iterator
+
+from clio_tools.ids.crosswalk import Crosswalk
+from clio_tools.load.comparing import DELETE, KEEP, MARK
+from clio_tools.load.database import Database, Options
+from clio_tools.load.loading import Load
+from clio_tools.load.plan import Plan, Wanted, plan_of
+from clio_tools.load.surrogates import taken_numbers, unfilled
+from clio_tools.load.workspace import Workspace, mapping_here
+from clio_tools.program import Refused, remark, run, stop_by_exception
+
+NAME = "clio-load"
+
+
+def asked(words: list[str]) -> argparse.Namespace:
+    """What the words ask for."""
+    parser = argparse.ArgumentParser(prog=NAME, description="Brings tables that are there to what the mapping demands.",
+                                     epilog="`clio-load sqlite --help` has the options; the manual is man clio-load.")
+    kinds = parser.add_subparsers(dest="kind", required=True, metavar="sqlite|postgres")
+    sqlite, postgres = kinds.add_parser("sqlite"), kinds.add_parser("postgres")
+    sqlite.add_argument("place", metavar="FILE")
+    postgres.add_argument("place", metavar="CONNECTION")
+    postgres.add_argument("schema", nargs="?", default="public", metavar="SCHEMA")
+    for one in sqlite, postgres:
+        add_options(one)
+    given = parser.parse_args(words)
+    if (given.out is None) != (given.summary is None):
+        parser.error("--out and --summary go together")
+    return given
+
+
+def add_options(parser: argparse.ArgumentParser) -> None:
+    """The options of both databases."""
+    add = parser.add_argument
+    add("--ids", metavar="CROSSWALK", help="give surrogate keys the numbers of this crosswalk")
+    gone = parser.add_mutually_exclusive_group()
+    gone.add_argument("--keep", dest="gone", action="store_const", const=KEEP, default=KEEP,
+                      help="keep rows that the target no longer has")
+    gone.add_argument("--delete", dest="gone", action="store_const", const=DELETE, help="delete them, if a load wrote "
+                                                                                        "them")
+    gone.add_argument("--mark", metavar="COLUMN", help="set this column in them")
+    add("--keep-referred", action="store_true", help="keep rows to which others refer, though they are to be deleted")
+    add("--key", action="append", default=[], metavar="TABLE=COLUMN,..", help="match the rows of a table by these "
+                                                                              "columns")
+    add("--core", action="store_true", help="take the core")
+    add("--null", metavar="TEXT", help="this text is NULL")
+    add("--out", metavar="FOLDER", help="take the files of an exchange that was run before")
+    add("--summary", metavar="FILE", help="what that exchange printed")
+    add("--dry-run", action="store_true", help="change nothing, and print what differs")
+    add("--others", action="store_true", help="rows that no load wrote are no difference")
+    add("--diff", metavar="FILE", help="write all that differs as CSV")
+    add("--adopt", action="store_true", help="rows that no load wrote are the things whose numbers they have")
+    add("--log", metavar="TABLE", help="add a row to this table")
+    add("--name", default="clio", metavar="NAME", help="the name of these loads")
+
+
+def keys_of(texts: list[str]) -> dict[str, list[str]]:
+    """The keys that were given by hand, by the names of tables."""
+    keys = {}
+    for text in texts:
+        table, _, columns = text.rpartition("=")
+        if not table or not all(columns.split(",")):
+            raise Refused(f"--key {text}: a table and its columns must be there, as in customer=name,town")
+        keys[table] = columns.split(",")
+    return keys
+
+
+def database_of(given: argparse.Namespace) -> Database:
+    """The database that is loaded."""
+    if given.kind == "sqlite":
+        from clio_tools.load.sqlite import Sqlite
+        return Sqlite(given.place)
+    from clio_tools.load.postgres import Postgres
+    return Postgres(given.place, given.schema)
+
+
+@contextlib.contextmanager
+def crosswalk_of(path: str | None) -> Iterator[Crosswalk | None]:
+    """The crosswalk; one that was made for nothing goes away again."""
+    if path is None:
+        yield None
+        return
+    is_new = not pathlib.Path(path).exists()
+    crosswalk = Crosswalk(path)
+    try:
+        yield crosswalk
+    finally:
+        is_kept = not crosswalk.base.in_transaction
+        crosswalk.close()
+        if is_new and not is_kept:
+            pathlib.Path(path).unlink(missing_ok=True)
+
+
+def tell(text: str) -> None:
+    """Tells the progress, on a terminal alone."""
+    if sys.stderr.isatty():
+        remark(NAME, text)
+
+
+def planned(given: argparse.Namespace, database: Database, space: Workspace, crosswalk: Crosswalk | None) -> Plan:
+    """What is to be loaded; with a crosswalk the files have their numbers then."""
+    catalog, sets = database.catalog(), space.mapping.target
+    keys = keys_of(given.key)
+    numbered = set()
+    if crosswalk is not None:
+        tell("gives numbers")
+        space.number(crosswalk, taken_numbers(database, catalog, sets, crosswalk.next))
+        numbered = {(one.name, name) for one in sets for name in one.columns if crosswalk.is_numbered(one.name, name)}
+    return plan_of(sets, catalog, Wanted(keys, given.mark, unfilled(sets, space.out / "rules.txt") - numbered,
+                                         numbered))
+
+
+def work(words: list[str]) -> None:
+    """Runs the tool on its words."""
+    given = asked(words)
+    stop_by_exception()
+    with contextlib.ExitStack() as at_the_end:
+        space = Workspace(mapping_here())
+        at_the_end.callback(space.close)
+        database = database_of(given)
+        at_the_end.callback(database.close)
+        if given.out is None:
+            tell("runs clio exchange")
+            space.exchange(given.core)
+        else:
+            space.take(pathlib.Path(given.out), given.summary)
+        crosswalk = at_the_end.enter_context(crosswalk_of(given.ids))
+        plan = planned(given, database, space, crosswalk)
+        load = Load(database, plan, space, crosswalk, Options(given.null), MARK if given.mark else given.gone, given,
+                    tell)
+        status = load.run()
+    sys.stdout.flush()
+    if status:
+        sys.exit(status)
+
+
+def main() -> None:
+    """Runs the tool."""
+    run(NAME, work)

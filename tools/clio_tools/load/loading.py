@@ -1,0 +1,168 @@
+"""One load: staged, compared, written, and told."""
+from __future__ import annotations
+
+import argparse
+import datetime
+import json
+from collections.abc import Iterator
+
+from clio_tools.databases.postgres import DatabaseError
+from clio_tools.draft.names import shown
+from clio_tools.ids.crosswalk import Crosswalk
+from clio_tools.load.changing import Change, Tell
+from clio_tools.load.comparing import DELETE, Comparison
+from clio_tools.load.database import Database, Misfit, Options, literal
+from clio_tools.load.plan import Plan, TablePlan
+from clio_tools.load.record import Record
+from clio_tools.load.telling import SAMPLES, Differences, said_of, shown_name
+from clio_tools.load.workspace import Workspace, sources_of
+from clio_tools.program import Refused, counted, harmless, remark
+from clio_tools.safe_files import digest_of_file
+
+LOG = ", ".join(f"{name} TEXT NOT NULL" for name in ("loaded_at", "load", "mapping", "sources", "options", "counts"))
+DOES_NOT_FIT = "22", "23"  # classes of SQLSTATE: a value that is none of a type; a constraint
+
+
+class Load:
+    """A load of a plan's tables from the files of a workspace."""
+
+    def __init__(self, database: Database, plan: Plan, space: Workspace, crosswalk: Crosswalk | None, options: Options,
+                 gone: str,
+                 given: argparse.Namespace, tell: Tell) -> None:
+        self.database, self.plan, self.space, self.crosswalk = database, plan, space, crosswalk
+        self.options, self.gone, self.given, self.tell = options, gone, given, tell
+        self.is_dry: bool = given.dry_run
+
+    def run(self) -> int:
+        """Does it all; answers the status."""
+        try:
+            with self.database.transaction(self.plan, self.is_dry):
+                comparison = self.compared()
+                self.write(comparison)
+        except DatabaseError as error:
+            if (error.sqlstate or "")[:2] not in DOES_NOT_FIT:
+                raise
+            with self.database.transaction(self.plan, True):
+                self.fill()
+                self.refuse_misfits(list(self.misfits()))
+            raise Refused(f"{error.cause}; nothing is changed") from None
+        for plan in self.plan.tables:
+            print(harmless(said_of(plan, comparison.counts[plan.number], self.is_dry)))
+            if self.is_dry:
+                print("".join(harmless(line) + "\n" for line in self.samples[plan.number]), end="")
+        return int(self.is_dry and self.differs(comparison))
+
+    def fill(self) -> dict[int, int]:
+        """Reads all files into work tables; answers how many rows each has."""
+        rows = {}
+        for plan in self.plan.tables:
+            rows[plan.number] = self.database.fill(plan, self.space.path(plan.set), self.options)
+            self.tell(f"read {plan.table.name}: {rows[plan.number]:,} rows")
+        return rows
+
+    def compared(self) -> Comparison:
+        """Stages all tables, refuses what doesn't fit, and compares them."""
+        rows = self.fill()
+        if self.plan.misfits or any(self.database.may_misfit(plan, self.options) for plan in self.plan.tables):
+            self.refuse_misfits(list(self.misfits()))
+        record = Record(self.database, self.given.name)
+        comparison = Comparison(self.database, self.plan, record, self.gone)
+        for plan in self.plan.tables:
+            plan.is_empty = self.database.value(f"SELECT 1 FROM {plan.table.sql} LIMIT 1") is None
+            self.database.convert(plan, self.options, self.is_dry)
+        for plan in self.plan.tables:
+            comparison.compare(plan, rows[plan.number])
+            self.tell(f"compared {plan.table.name}")
+        comparison.find_referred()
+        for plan in self.plan.tables:
+            comparison.count_extra(plan)
+        return comparison
+
+    def misfits(self) -> Iterator[str]:
+        """All that doesn't fit, as lines."""
+        yield from self.plan.misfits
+        for plan in self.plan.tables:
+            for one in self.database.misfits(plan, self.options):
+                yield misfit_text(plan, one)
+
+    def refuse_misfits(self, lines: list[str]) -> None:
+        """Lists what doesn't fit, and refuses it."""
+        for line in lines[:-1]:
+            remark("clio-load", line)
+        if lines:
+            raise Refused(f"{lines[-1]}\nclio-load: {counted(len(lines), 'misfit')}; nothing is changed")
+
+    def write(self, comparison: Comparison) -> None:
+        """Writes what differs, unless it is a dry run."""
+        differences = Differences(comparison)
+        if self.is_dry:
+            self.samples = {plan.number: list(differences.samples(plan)) for plan in self.plan.tables}
+        if self.given.diff:
+            differences.write(self.given.diff)
+        if self.is_dry:
+            return
+        self.check_referred(comparison)
+        self.check_numbers(comparison)
+        comparison.record.make()
+        Change(comparison, self.tell).write()
+        if self.given.log:
+            self.log(comparison)
+        if self.crosswalk is not None and self.space.digests:
+            self.crosswalk.commit(self.space.digests)
+
+    def check_referred(self, comparison: Comparison) -> None:
+        """Refuses to leave rows that refer to nothing."""
+        found = [plan for plan in self.plan.tables if comparison.counts[plan.number].referred]
+        if not found or self.given.keep_referred or self.gone != DELETE:
+            return
+        for plan in found:
+            for row in self.database.rows(f"SELECT m FROM {plan.work('extra')} WHERE is_referred = 1 LIMIT {SAMPLES}"):
+                remark("clio-load", f"{shown_name(plan.table.name)} {shown(str(row[0]))} is to be deleted, and a row "
+                                    f"that stays refers to it")
+        count = sum(comparison.counts[plan.number].referred for plan in found)
+        raise Refused(f"{counted(count, 'row')} can't be deleted, since rows that stay refer to them: keep them by "
+                      f"--keep-referred;"
+                      " nothing is changed")
+
+    def check_numbers(self, comparison: Comparison) -> None:
+        """Refuses to change rows that no load wrote, and that are matched by a number of the crosswalk alone."""
+        found = 0
+        for plan in self.plan.tables:
+            if self.given.adopt or not comparison.counts[plan.number].changed or not set(plan.key
+                                                                                         or []) & set(plan.numbered):
+                continue
+            keys = comparison.changed_of_others(plan)
+            found += self.database.count(f"SELECT count(*) FROM ({keys}) AS k")
+            for row in self.database.rows(f"{keys} LIMIT {SAMPLES}"):
+                remark("clio-load", f"{shown_name(plan.table.name)} {shown(str(row[0]))} would be changed, and no load "
+                                    f"wrote that row")
+        if found:
+            raise Refused(f"{counted(found, 'row')} with the number of a thing in the crosswalk may be another thing: "
+                          f"change its number,"
+                          " or take --adopt if it is the same; nothing is changed")
+
+    def differs(self, comparison: Comparison) -> bool:
+        """Whether the database differs from the target."""
+        return any(counts.is_written or counts.kept or (counts.others and not self.given.others)
+                   for counts in comparison.counts.values())
+
+    def log(self, comparison: Comparison) -> None:
+        """Adds this load to the log."""
+        sources = {str(path): digest_of_file(path).hex() for path in sources_of(self.space.mapping)}
+        counts = {plan.table.name: vars(comparison.counts[plan.number]) for plan in self.plan.tables}
+        options = {name: value for name, value in vars(self.given).items() if value and name not in ("place", "kind")}
+        table = self.database.make_log(self.given.log, LOG)
+        values = [datetime.datetime.now(datetime.timezone.utc).isoformat(timespec="seconds"), self.given.name,
+                  sources.pop("mapping.clio"),
+                  json.dumps(sources), json.dumps(options), json.dumps(counts)]
+        self.database.run(f"INSERT INTO {table} VALUES ({', '.join(literal(value) for value in values)})")
+
+
+def misfit_text(plan: TablePlan, one: Misfit) -> str:
+    """A misfit in words."""
+    place = f"out/{plan.set.name}.csv: record {one.record}: column {one.column.word}"
+    if one.why == "NOT NULL":
+        return (f"{place} has no value, and must have one in table {shown_name(plan.table.name)}: fill it, or give it"
+                " numbers by --ids")
+    text = shown((one.text or "")[:80])
+    return f"{place} is {text}, which {shown_name(plan.table.name)} can't hold unchanged as {one.why}"

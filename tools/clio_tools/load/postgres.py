@@ -1,0 +1,260 @@
+"""PostgreSQL: files go by COPY into temporary tables as they are, and one statement makes values of a table's texts."""
+from __future__ import annotations
+
+import contextlib
+import pathlib
+import re
+from collections.abc import Iterator
+from typing import IO
+
+from clio_tools.csv import read_records, read_table
+from clio_tools.databases.postgres import DatabaseError, Session, identifier, pieces_of_file
+from clio_tools.draft import model, postgres
+from clio_tools.load.catalog import (BOOLEAN, DATE, INTEGER, NUMBER, OTHER, TEXT, TIME, Catalog, Column, ForeignKey,
+                                     Table)
+from clio_tools.load.database import Cells, Database, Misfit, Options, literal
+from clio_tools.load.plan import Plan, TablePlan
+from clio_tools.program import Refused
+
+WAIT = "10s"  # for a lock of somebody else
+SETTINGS = {**postgres.SETTINGS, "work_mem": "64MB", "client_min_messages": "warning"}
+SCHEMA = "clio_load"  # of the tool's own tables
+KINDS = {"bool": BOOLEAN, "int2": INTEGER, "int4": INTEGER, "int8": INTEGER, "numeric": NUMBER, "float4": NUMBER,
+         "float8": NUMBER,
+         "date": DATE, "timestamp": TIME, "timestamptz": TIME}
+COLUMNS = """SELECT c.relname, a.attname, pg_catalog.format_type(a.atttypid, a.atttypmod),
+ coalesce(b.typname, t.typname),
+ coalesce(b.typcategory, t.typcategory), a.attnotnull OR t.typnotnull, a.atthasdef OR t.typdefault IS NOT NULL,
+ a.attidentity <> '', a.attgenerated <> '',
+ pg_catalog.pg_get_serial_sequence(pg_catalog.quote_ident(n.nspname) || '.' || pg_catalog.quote_ident(c.relname),
+ a.attname),
+ CASE WHEN a.attcollation <> t.typcollation THEN (SELECT pg_catalog.quote_ident(s.nspname) || '.' ||
+ pg_catalog.quote_ident(o.collname)
+  FROM pg_catalog.pg_collation o JOIN pg_catalog.pg_namespace s ON s.oid = o.collnamespace WHERE o.oid = a.attcollation)
+  END
+ FROM pg_catalog.pg_attribute a JOIN pg_catalog.pg_class c ON c.oid = a.attrelid JOIN pg_catalog.pg_namespace n ON n.oid
+ = c.relnamespace
+ JOIN pg_catalog.pg_type t ON t.oid = a.atttypid LEFT JOIN pg_catalog.pg_type b ON b.oid = t.typbasetype
+ WHERE n.nspname = %s AND a.attnum > 0 AND NOT a.attisdropped AND c.relkind IN ('r', 'p', 'f') ORDER BY c.relname,
+ a.attnum"""
+NAMES = """(SELECT pg_catalog.string_agg(a.attname, E'\\x01' ORDER BY k.place)
+ FROM pg_catalog.unnest({0}) WITH ORDINALITY AS k (number, place)
+ JOIN pg_catalog.pg_attribute a ON a.attrelid = {1} AND a.attnum = k.number)"""
+FOREIGN_KEYS = f"""SELECT s.nspname, c.relname, {NAMES.format('r.conkey', 'r.conrelid')}, p.relname,
+ {NAMES.format('r.confkey', 'r.confrelid')}
+ FROM pg_catalog.pg_constraint r JOIN pg_catalog.pg_class c ON c.oid = r.conrelid JOIN pg_catalog.pg_namespace s ON
+ s.oid = c.relnamespace
+ JOIN pg_catalog.pg_class p ON p.oid = r.confrelid JOIN pg_catalog.pg_namespace n ON n.oid = p.relnamespace
+ WHERE r.contype = 'f' AND r.conparentid = 0 AND n.nspname = %s ORDER BY 1, 2, r.conname"""
+TRIAL = """CREATE OR REPLACE FUNCTION pg_temp.clio_fits(cell text) RETURNS boolean LANGUAGE plpgsql AS $clio$
+ DECLARE made {0}; BEGIN made := cell; RETURN true; EXCEPTION WHEN others THEN RETURN false; END $clio$"""
+LOCKED = "55P03", "40P01"
+
+
+class Postgres(Database):
+    """A schema of a database."""
+
+    differs = "IS DISTINCT FROM"
+    place = "ctid"
+    now = "CURRENT_TIMESTAMP"
+    overriding = " OVERRIDING SYSTEM VALUE"
+
+    def __init__(self, connection: str, schema: str) -> None:
+        self.connection, self.schema = connection, schema
+        self.session = Session(connection, **SETTINGS)
+        self.session.run("SET search_path = ''")
+
+    def catalog(self) -> Catalog:
+        base = postgres.Base(self.connection, self.schema)
+        side = model.Side("target", base.tables())
+        base.session.close()
+        found: dict[str, list[Column]] = {}
+        words = {table.name: {column.name: column.word for column in table.columns} for table in side.tables}
+        for table, *rest in self.session.rows(COLUMNS, self.schema):
+            if table in words:
+                found.setdefault(str(table), []).append(column_of(words[str(table)], rest))
+        tables = [Table(table.name, table.word, self.sql(self.schema, table.name), found[table.name],
+                        [list(key) for key in table.keys])
+                  for table in side.tables if table.name in found]
+        keys = [ForeignKey(self.sql(str(schema), str(child)), listed(columns), self.sql(self.schema, str(parent)),
+                           listed(referred))
+                for schema, child, columns, parent, referred in self.session.rows(FOREIGN_KEYS, self.schema)]
+        return Catalog(tables, keys)
+
+    def sql(self, schema: str, name: str) -> str:
+        """A table's name, as SQL has it."""
+        return f"{identifier(schema)}.{identifier(name)}"
+
+    def run(self, sql: str) -> int:
+        return self.session.run(sql)
+
+    def rows(self, sql: str) -> list[Cells]:
+        return self.session.rows(sql)
+
+    def stream(self, sql: str) -> Iterator[Cells]:
+        return self.session.copied_rows(sql)
+
+    @contextlib.contextmanager
+    def transaction(self, plan: Plan, is_dry: bool) -> Iterator[None]:
+        if is_dry:
+            self.run("BEGIN ISOLATION LEVEL REPEATABLE READ")
+            try:
+                yield
+            finally:
+                with contextlib.suppress(DatabaseError):
+                    self.run("ROLLBACK")
+            return
+        try:
+            with self.session.transaction():
+                self.run(f"SET LOCAL lock_timeout = '{WAIT}'")
+                tables = ", ".join(sorted(one.table.sql for one in plan.tables))
+                if tables:
+                    self.run(f"LOCK TABLE {tables} IN SHARE ROW EXCLUSIVE MODE")
+                yield
+        except DatabaseError as error:
+            if error.sqlstate in LOCKED:
+                raise Refused(f"{error.cause}: somebody else uses these tables; nothing is changed, try again") \
+                    from None
+            raise
+
+    def fill(self, plan: TablePlan, path: pathlib.Path, options: Options) -> int:
+        columns = plan.set.columns
+        cells = ", ".join(f"c{place} text" for place in range(len(columns)))
+        self.run(f"CREATE TEMP TABLE {plan.work('raw')} ({cells})")
+        if len(columns) == 1:  # a line \. would end COPY
+            return self.session.copy_rows_in(plan.work("raw"), read_table(path, columns))
+        next(iter(read_table(path, columns)), None)  # the header is as it must be
+        names = ", ".join(f"c{place}" for place in range(len(columns)))
+        with path.open("rb") as file:
+            try:
+                return self.session.copy_in(plan.work("raw"), without_zero(path, file),
+                                            f"FORMAT csv, HEADER, FORCE_NOT_NULL ({names})")
+            except DatabaseError as error:
+                raise Refused(f"out/{path.name} is not as clio writes it: {error.cause}") from None
+
+    def cell(self, plan: TablePlan, number: int, options: Options) -> str:
+        """The text of a loaded column in SQL, NULL if there is to be no value."""
+        place, column = plan.columns[number]
+        cell = (f"CASE WHEN left(c{place}, 1) <> '?' THEN c{place}"
+                f" WHEN left(c{place}, 2) = '??' THEN substr(c{place}, 2) END")
+        if column.kind != TEXT:
+            cell = f"nullif({cell}, '')"
+        return cell if options.null_text is None else f"nullif({cell}, {literal(options.null_text)})"
+
+    def convert(self, plan: TablePlan, options: Options, is_dry: bool) -> None:
+        cells = [self.cell(plan, number, options) + ("" if column.kind == TEXT else f"::{column.type}")
+                 for number, column in enumerate(plan.loaded)]
+        if plan.is_empty and not is_dry:
+            made = ", ".join(f"({cell}) AS c{number}" for number, cell in enumerate(cells))
+            self.run(f"CREATE TEMP VIEW {plan.work('new')} AS SELECT {made} FROM {plan.work('raw')}")
+            return
+        columns = ", ".join(f"c{number} {column.type}{'' if column.may_be_null else ' NOT NULL'}" for number,
+                            column in enumerate(plan.loaded))
+        self.run(f"CREATE TEMP TABLE {plan.work('new')} ({columns})")
+        self.run(f"INSERT INTO {plan.work('new')} SELECT {', '.join(f'({cell})' for cell in cells)} FROM "
+                 f"{plan.work('raw')}")
+        self.run(f"ANALYZE {plan.work('new')}")
+
+    def may_misfit(self, plan: TablePlan, options: Options) -> bool:
+        tests = [test for number, column in enumerate(plan.loaded)
+                 if (test := altered(self.cell(plan, number, options), column))]
+        query = f"SELECT 1 FROM {plan.work('raw')} WHERE {' OR '.join(tests)} LIMIT 1"
+        return bool(tests) and self.value(query) is not None
+
+    def misfits(self, plan: TablePlan, options: Options) -> list[Misfit]:
+        found: list[Misfit] = []
+        numbered = f"(SELECT r.*, row_number() OVER (ORDER BY r.ctid) AS record FROM {plan.work('raw')} AS r)"
+        for number, column in enumerate(plan.loaded):
+            place = plan.columns[number][0]
+            cell = self.cell(plan, number, options)
+            self.run(TRIAL.format(column.type))
+            tests = [(f"NOT pg_temp.clio_fits({cell})", column.type)]
+            if not column.may_be_null:
+                tests.append((f"({cell}) IS NULL", "NOT NULL"))
+            for test, why in tests:
+                rows = self.rows(f"SELECT record, c{place} FROM {numbered} AS n WHERE {test}")
+                found += [Misfit(int(record or 0), column, text, why) for record, text in rows]
+            if loses := altered(cell, column):
+                fits = f"CASE WHEN pg_temp.clio_fits({cell}) THEN {loses} ELSE false END"
+                rows = self.rows(f"SELECT record, c{place} FROM {numbered} AS n WHERE {fits}")
+                found += [Misfit(int(record or 0), column, text, column.type) for record, text in rows]
+        return sorted(found, key=lambda one: one.record)
+
+    def key_text(self, cells: list[str]) -> str:
+        texts = [f"({cell})::text" for cell in cells]
+        return texts[0] if len(texts) == 1 else f"ARRAY[{', '.join(texts)}]::text"
+
+    def compared(self, cell: str, column: Column) -> str:
+        return f"{cell}::text" if column.kind == OTHER else cell
+
+    def placeholder(self, column: Column, table: str) -> str | None:
+        number = "(((t.ctid::text::point)[0])::bigint * 300 + ((t.ctid::text::point)[1])::bigint + 1)"
+        least = f"(SELECT min(m.{identifier(column.name)}) FROM {table} AS m)"
+        if column.kind == TEXT:
+            size = re.search(r"\((\d+)\)", column.type)
+            return f"substr(md5(random()::text || t.ctid::text), 1, {size[1] if size else 32})"
+        if column.kind in (INTEGER, NUMBER):
+            return f"(least({least}, 0) - {number})"
+        if column.kind in (DATE, TIME):
+            return f"({least} - {number}::integer)" if column.kind == DATE else f"({least} - {number} * interval '1 s')"
+        return "gen_random_uuid()" if column.type == "uuid" else None
+
+    def make_record(self, name: str, columns: str) -> str:
+        self.run(f"CREATE SCHEMA IF NOT EXISTS {SCHEMA}; CREATE TABLE IF NOT EXISTS {SCHEMA}.{name} ({columns})")
+        return f"{SCHEMA}.{name}"
+
+    def make_log(self, name: str, columns: str) -> str:
+        self.run(f"CREATE TABLE IF NOT EXISTS {self.sql(self.schema, name)} ({columns})")
+        return self.sql(self.schema, name)
+
+    def has_record(self, name: str) -> str | None:
+        return self.value(f"SELECT pg_catalog.to_regclass({literal(f'{SCHEMA}.{name}')})")
+
+    def set_sequences(self, plan: TablePlan) -> None:
+        for column in plan.loaded:
+            if column.sequence is None:
+                continue
+            greatest = self.count(f"SELECT max({identifier(column.name)}) FROM {plan.table.sql}")
+            last = self.count(f"SELECT last_value - CASE WHEN is_called THEN 0 ELSE 1 END FROM {column.sequence}")
+            if greatest > last:
+                self.value(f"SELECT pg_catalog.setval({literal(column.sequence)}, {greatest})")
+
+    def close(self) -> None:
+        self.session.close()
+
+
+def column_of(words: dict[str, str], cells: list[str | None]) -> Column:
+    """A column by its row of the catalog."""
+    name, declared, base, category, filled, has_default, is_identity, is_computed, sequence, collation = cells
+    kind = KINDS.get(str(base), TEXT if category == "S" else OTHER)
+    return Column(str(name), words[str(name)], str(declared) + (f" COLLATE {collation}" if collation else ""), kind,
+                  filled == "f",
+                  has_default == "t" or is_identity == "t", is_identity == "t" or sequence is not None,
+                  is_computed == "t", sequence)
+
+
+def listed(names: str | None) -> tuple[str, ...]:
+    """The names of a list."""
+    return tuple((names or "").split("\x01"))
+
+
+def altered(cell: str, column: Column) -> str | None:
+    """A condition: the type of a column would alter a text without a word, as by rounding it."""
+    size = re.fullmatch(r"(character varying|character)\((\d+)\)( COLLATE .*)?", column.type)
+    if size:
+        return f"char_length({cell}) > {size[2]}"
+    if column.type.startswith("numeric("):
+        return f"({cell})::numeric <> ({cell})::{column.type}"
+    if column.kind == DATE:
+        return f"(char_length({cell}) > 10 AND ({cell})::timestamp <> ({cell})::date)"
+    return None
+
+
+def without_zero(path: pathlib.Path, file: IO[bytes]) -> Iterator[bytes]:
+    """A file in pieces; a text with a byte 0 is refused by its record."""
+    for piece in pieces_of_file(file):
+        if b"\0" in piece:
+            number = next(number for number, row in enumerate(read_records(path)) if "\0" in "".join(row))
+            raise Refused(f"out/{path.name}: record {number}: a text has a byte 0, and a database would cut or refuse "
+                          f"it")
+        yield piece

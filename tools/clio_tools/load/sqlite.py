@@ -1,0 +1,264 @@
+"""SQLite, by Python's own module, in one transaction."""
+from __future__ import annotations
+
+import contextlib
+import os
+import pathlib
+import re
+import sqlite3
+import urllib.parse
+from collections.abc import Callable, Iterator
+
+from clio_tools.csv import read_table
+from clio_tools.draft import model, sqlite
+from clio_tools.load.catalog import (BOOLEAN, DATE, INTEGER, NUMBER, OTHER, TEXT, TIME, Catalog, Column, ForeignKey,
+                                     Table)
+from clio_tools.load.database import Cells, Database, Misfit, Options, identifier
+from clio_tools.load.plan import Plan, TablePlan
+from clio_tools.program import Refused, stop_by_exception
+
+WAIT = 10  # seconds for a lock of somebody else
+CACHE = 65536  # KiB of the file, and of work tables, that are held in memory
+OWN = "clio_load_"  # how the tool's own tables begin
+WORDS = {"t": 1, "true": 1, "y": 1, "yes": 1, "on": 1, "f": 0, "false": 0, "n": 0, "no": 0, "off": 0}
+DECLARED = [(INTEGER, "INT"), (TEXT, "CHAR|CLOB|TEXT"), (OTHER, "BLOB|^$|ANY|JSON|UUID"), (NUMBER, "REAL|FLOA|DOUB"),
+            (BOOLEAN, "BOOL"), (TIME, "TIME"), (DATE, "DATE")]  # kinds by what is in the name of a type, the first one
+FITS = {INTEGER: "typeof({0}) = 'integer'", NUMBER: "typeof({0}) IN ('integer', 'real')",
+        BOOLEAN: "typeof({0}) = 'integer'",
+        DATE: "date({0}) IS NOT NULL", TIME: "coalesce(date(substr({0}, 1, 10)), time(substr({0}, 1, 5))) IS NOT NULL"}
+
+Value = str | int | None
+Made = Callable[[str], Value]
+
+
+class Sqlite(Database):
+    """An SQLite file."""
+
+    differs = "IS NOT"
+    place = "_rowid_"
+    now = "CURRENT_TIMESTAMP"
+
+    def __init__(self, path: str) -> None:
+        self.path = path
+        if not pathlib.Path(path).is_file():
+            raise Refused(f"{path} is no file: clio-load fills tables that are there")
+        stop_by_exception()
+        address = f"file:{urllib.parse.quote(os.fsencode(pathlib.Path(path).resolve()))}?mode=rw"
+        with self.told():
+            self.base = sqlite3.connect(address, uri=True, isolation_level=None, timeout=WAIT)
+            self.base.text_factory = lambda content: content.decode("utf-8", "surrogateescape")
+            for schema in "main", "temp":
+                self.base.execute(f"PRAGMA {schema}.cache_size = -{CACHE}")
+            self.base.execute("PRAGMA foreign_keys = ON")
+
+    @contextlib.contextmanager
+    def told(self) -> Iterator[None]:
+        """What SQLite refuses is told as a refusal."""
+        try:
+            yield
+        except sqlite3.Error as error:
+            busy = ": somebody else has it locked; try again" if "locked" in str(error) else ""
+            raise Refused(f"{self.path}: SQLite: {error}{busy}; nothing is changed") from None
+
+    def catalog(self) -> Catalog:
+        read = sqlite.Base(self.path)
+        side = model.Side("target", read.tables())
+        read.base.close()
+        tables = [self.table(one) for one in side.tables if one.columns]
+        named = {table.name.lower(): table for table in tables}
+        keys = [key for table in tables for key in self.foreign_keys(table, named)]
+        return Catalog(tables, keys)
+
+    def table(self, found: model.Table) -> Table:
+        """A table with the types of its columns."""
+        words = {column.name: column.word for column in found.columns}
+        columns = []
+        query = f"PRAGMA main.table_xinfo({identifier(found.name)})"
+        for _, name, kind, filled, default, place, hidden in self.base.execute(query):
+            if hidden != 1:
+                is_identity = kind.upper() == "INTEGER" and bool(place) and found.keys[0] == [name]
+                columns.append(Column(name, words[name], kind or "BLOB", kind_of(kind), not filled and not place,
+                                      default is not None or is_identity, is_identity, hidden in (2, 3)))
+        ranked = [one for one in self.base.execute(f"PRAGMA main.table_list({identifier(found.name)})")
+                  if one[0] == "main"]
+        return Table(found.name, found.word, f"main.{identifier(found.name)}", columns,
+                     [list(key) for key in found.keys],
+                     not any(one[4] for one in ranked))
+
+    def foreign_keys(self, table: Table, named: dict[str, Table]) -> list[ForeignKey]:
+        """The foreign keys of a table."""
+        links: dict[int, list[tuple[str, str, str | None]]] = {}
+        query = f"PRAGMA main.foreign_key_list({identifier(table.name)})"
+        for number, _, other, column, referred, *_ in self.base.execute(query):
+            links.setdefault(number, []).append((other, column, referred))
+        found = []
+        for parts in links.values():
+            parent = named.get(parts[0][0].lower())
+            if parent is None:
+                continue
+            referred = [name for _, _, name in parts]
+            names = parent.keys[0] if None in referred and parent.keys else [own(parent, str(name))
+                                                                             for name in referred]
+            found.append(ForeignKey(table.sql, tuple(own(table, column) for _, column, _ in parts), parent.sql,
+                                    tuple(names)))
+        return found
+
+    def run(self, sql: str) -> int:
+        with self.told():
+            return self.base.execute(sql).rowcount
+
+    def rows(self, sql: str) -> list[Cells]:
+        return list(self.stream(sql))
+
+    def stream(self, sql: str) -> Iterator[Cells]:
+        with self.told():
+            for row in self.base.execute(sql):
+                yield tuple(text_of(cell) for cell in row)
+
+    @contextlib.contextmanager
+    def transaction(self, plan: Plan, is_dry: bool) -> Iterator[None]:
+        self.run("BEGIN" if is_dry else "BEGIN IMMEDIATE")
+        try:
+            if not is_dry:
+                self.run("PRAGMA defer_foreign_keys = ON")
+            yield
+            if not is_dry:
+                self.commit(plan)
+        finally:
+            if self.base.in_transaction:
+                self.base.execute("ROLLBACK")
+
+    def commit(self, plan: Plan) -> None:
+        """Ends the transaction; rows that refer to nothing are named."""
+        try:
+            self.base.execute("COMMIT")
+        except sqlite3.IntegrityError:
+            for one in plan.tables:
+                for table, row, parent, _ in self.base.execute(f"PRAGMA "
+                                                               f"main.foreign_key_check({identifier(one.table.name)})"):
+                    raise Refused(f"{self.path}: row {row} of {table} would refer to no row of {parent}; nothing is "
+                                  f"changed") from None
+            raise Refused(f"{self.path}: a row would refer to no row; nothing is changed") from None
+        except sqlite3.Error as error:
+            raise Refused(f"{self.path}: SQLite: {error}; nothing is changed") from None
+
+    def fill(self, plan: TablePlan, path: pathlib.Path, options: Options) -> int:
+        columns = plan.loaded
+        cells = ", ".join(f"c{place} {affinity(column)}" for place, column in enumerate(columns))
+        self.run(f"CREATE TEMP TABLE {plan.work('new')} ({cells})")
+        marks = ", ".join("?" * len(columns))
+        makers = [(place, maker(column, options)) for place, column in plan.columns]
+        rows = ([make(row[place]) for place, make in makers] for row in checked(path, plan))
+        with self.told():
+            return self.base.executemany(f"INSERT INTO {plan.work('new')} VALUES ({marks})", rows).rowcount
+
+    def tests(self, plan: TablePlan) -> Iterator[tuple[int, Column, str, str]]:
+        """For each column that can't hold all texts the condition that a cell doesn't fit, and why it doesn't then."""
+        for place, column in enumerate(plan.loaded):
+            if not column.may_be_null:
+                yield place, column, f"c{place} IS NULL", "NOT NULL"
+            if column.kind in FITS:
+                test = FITS[column.kind].format(f"c{place}")
+                yield place, column, f"c{place} IS NOT NULL AND NOT ({test})", column.type
+
+    def may_misfit(self, plan: TablePlan, options: Options) -> bool:
+        tests = " OR ".join(f"({test})" for _, _, test, _ in self.tests(plan))
+        return bool(tests) and self.value(f"SELECT 1 FROM {plan.work('new')} WHERE {tests} LIMIT 1") is not None
+
+    def misfits(self, plan: TablePlan, options: Options) -> list[Misfit]:
+        found = [Misfit(int(str(record)), column, text, why) for place, column, test, why in self.tests(plan)
+                 for record, text in self.stream(f"SELECT _rowid_, c{place} FROM {plan.work('new')} WHERE {test}")]
+        return sorted(found, key=lambda one: one.record)
+
+    def convert(self, plan: TablePlan, options: Options, is_dry: bool) -> None:
+        """The work table has values already."""
+
+    def key_text(self, cells: list[str]) -> str:
+        return " || ',' || ".join(f"quote({cell})" for cell in cells)
+
+    def compared(self, cell: str, column: Column) -> str:
+        return f"{cell} COLLATE BINARY" if column.kind in (TEXT, OTHER) else cell
+
+    def placeholder(self, column: Column, table: str) -> str | None:
+        if column.kind in (INTEGER, NUMBER):
+            name = identifier(column.name)
+            least = f"(SELECT min(coalesce(min(m.{name}), 0), 0) FROM {table} AS m)"
+            return f"{least} - 1 - abs(random() % 1000000000000000)"
+        return "hex(randomblob(16))" if column.kind in (TEXT, OTHER, DATE, TIME) else None
+
+    def make_record(self, name: str, columns: str) -> str:
+        return self.make_log(OWN + name, columns)
+
+    def make_log(self, name: str, columns: str) -> str:
+        self.run(f"CREATE TABLE IF NOT EXISTS main.{identifier(name)} ({columns})")
+        return f"main.{identifier(name)}"
+
+    def has_record(self, name: str) -> str | None:
+        with self.told():
+            found = self.base.execute("SELECT 1 FROM main.sqlite_master WHERE type = 'table' AND name = ?",
+                                      (OWN + name,)).fetchone()
+        return f"main.{identifier(OWN + name)}" if found else None
+
+    def set_sequences(self, plan: TablePlan) -> None:
+        """SQLite does it by itself."""
+
+    def close(self) -> None:
+        self.base.close()
+
+
+def own(table: Table, name: str) -> str:
+    """A column's name as its table has it; SQLite doesn't tell capitals."""
+    return next((column.name for column in table.columns if column.name.lower() == name.lower()), name)
+
+
+def kind_of(declared: str) -> str:
+    """What texts become in a column of a declared type, by SQLite's own rules and by the names of others' types."""
+    name = declared.upper()
+    for kind, pattern in DECLARED:
+        if re.search(pattern, name):
+            return kind
+    return NUMBER if re.search("NUM|DEC|MONEY", name) else OTHER
+
+
+def affinity(column: Column) -> str:
+    """A type such that a work table keeps values as the column does."""
+    name = column.type.upper()
+    if "INT" in name:
+        return "INTEGER"
+    if re.search("CHAR|CLOB|TEXT", name):
+        return "TEXT"
+    if "BLOB" in name or name == "ANY":
+        return "BLOB"
+    return "REAL" if re.search("REAL|FLOA|DOUB", name) else "NUMERIC"
+
+
+def maker(column: Column, options: Options) -> Made:
+    """What makes a value of a cell: nulls and the text for NULL are NULL, and so is the empty text but in a text."""
+    opened = {options.null_text} if column.kind in (TEXT, OTHER) else {options.null_text, ""}
+
+    def text(cell: str) -> Value:
+        if cell[:1] == "?":
+            if cell[:2] != "??":
+                return None
+            cell = cell[1:]
+        return None if cell in opened else cell
+
+    def boolean(cell: str) -> Value:
+        found = text(cell)
+        return WORDS.get(found.lower(), found) if isinstance(found, str) else None
+
+    return boolean if column.kind == BOOLEAN else text
+
+
+def checked(path: pathlib.Path, plan: TablePlan) -> Iterator[list[str]]:
+    """The rows of a file; a text with a byte 0 is refused, as SQLite's functions end there."""
+    for number, row in enumerate(read_table(path, plan.set.columns), 1):
+        if "\0" in "".join(row):
+            raise Refused(f"out/{path.name}: record {number}: a text has a byte 0, and a database would cut or refuse "
+                          f"it")
+        yield row
+
+
+def text_of(cell: object) -> str | None:
+    """A value as a text."""
+    return None if cell is None else cell if isinstance(cell, str) else repr(cell)
