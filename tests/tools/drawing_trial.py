@@ -3,6 +3,7 @@ source."""
 import csv
 import io
 import json
+import os
 import pathlib
 import sqlite3
 import subprocess
@@ -15,6 +16,7 @@ from clio_tools.rules.lines_alone import bare_text, circular_refs
 from clio_tools.rules.whole import printed, read, worked_out
 from clio_tools.rules.writing import write
 
+os.environ["PATH"] = os.path.dirname(PROGRAM) + os.pathsep + os.environ["PATH"]  # clio-rules asks for it there
 Table = list[tuple[Optional[str], ...]]
 
 

@@ -52,3 +52,19 @@ class Northwind(Trial):
                          "// line place.city -> order.ship_city by ship;\n")
         self.refused("clio-draft", "csv", "new", "--lines-from", "source",
                      why="--lines-from is for the target of a drawing")
+
+    def test_texts_suggest_notes(self) -> None:
+        """Columns of other names whose texts are those of a source column, of the set itself or a step away."""
+        self.file("source", "source {\n  set orders {\n    number, ship, flag;\n    ref (ship) -> place (id);\n  }\n"
+                            "  set place {\n    id, city;\n  }\n}\n")
+        self.file("orders.csv", "number,ship,flag\n1,a,y\n2,b,n\n3,c,y\n4,zz,y\n")
+        self.file("place.csv", "id,city\na,Rome\nb,Bonn\nc,Oslo\n")
+        self.file("new/sale.csv", "code,town,is_open\n2,Bonn,y\n3,Oslo,n\n1,Rome,y\n")
+        words = ["clio-draft", "csv", "new", "--side", "target", "--drawing", "--lines-from", "source"]
+        self.assertEqual(self.printed(*words, "--data", ".").split("\n\n")[1],
+                         "// What names and texts suggest: take away the // of what is meant.\n"
+                         "// rows sale from orders;\n// line orders.number -> sale.code;  // the same texts\n"
+                         "// line place.city -> sale.town by ship;  // the same texts\n")
+        self.assertIn("// rows sale from ..;\n", self.printed(*words))
+        self.assertEqual((self.folder / "orders.csv").read_text().count("\n"), 5)
+        self.refused(*words, "--data", ".", "--mapping", "m", why="--lines-from goes without --mapping")

@@ -19,7 +19,8 @@ OPTIONS
 `--drawing` prints the side for a drawing (man clio-rules): refs in a circle are kept, and those of the target that may
 be NULL are optional, which takes `mapping 2;` on top. With `--side target --lines-from FILE`, where FILE has the source
 that clio-draft printed, `rows` and `line`s are proposed as comments: for sets and columns of the same names, and by
-each way that there is.
+each way that there is. With `--data FOLDER` too, which then has the source's files and is only read, also for columns
+with the same texts as the rows that the target has: nine of ten texts, and three at least.
 
 `--data FOLDER` writes the source's files into the folder, as clio reads them: NULL as the empty text, numbers as their
 digits. Remarks on standard error say what a reader should know: NULL beside empty texts in a column, rows that a ref
@@ -61,10 +62,12 @@ from clio_tools.draft.model import Side, Table, find_set
 from clio_tools.draft.names import shown
 from clio_tools.draft.proposals import proposals
 from clio_tools.draft.text import side_text
+from clio_tools.draft.texts import Texts
 from clio_tools.mapping.text import Set, read_sets
 from clio_tools.program import Refused, remark, run
 
-Base = sqlite.Base | postgres.Base | delimited.Base | document.Base
+TableBase = sqlite.Base | postgres.Base | delimited.Base
+Base = TableBase | document.Base
 # a table, the order of its columns, the set of the mapping if there is one
 Wanted = tuple[Table, list[str], Set | None]
 
@@ -91,10 +94,12 @@ def words_of(words: list[str]) -> argparse.Namespace:
             one.add_argument("--null", metavar="TEXT",
                              help="write NULL as this text, which nothing else may be, and not as the empty one")
     given = parser.parse_args(words)
-    if given.side == "target" and given.data:
-        parser.error("--data is for the source: of the target no data is read")
+    if given.side == "target" and given.data and not (given.lines_from and given.kind != "json"):
+        parser.error("--data is for the source: of the target no data is read, but with --lines-from the rows of tables")
     if given.lines_from and (given.side != "target" or not given.drawing):
         parser.error("--lines-from is for the target of a drawing: --side target --drawing")
+    if given.lines_from and given.mapping:
+        parser.error("--lines-from goes without --mapping")
     for option in "mapping", "null":
         if getattr(given, option, None) is not None and not given.data:
             parser.error(f"--{option} needs --data")
@@ -145,20 +150,35 @@ def write_data(base: Base, wanted: list[Wanted], written: Written) -> None:
             else:
                 written.table(table, ([made.cells[word] for word in order] for made in objects), order, order)
         return
-    tables = [table for table, _, _ in wanted]
-    pairs: Iterable[tuple[Table, Rows]]
-    if isinstance(base, postgres.Base):
-        pairs = base.all_rows(tables)
-    else:
-        pairs = ((table, base.rows(table)) for table in tables)
-    for (_, order, _), (table, rows) in zip(wanted, pairs):
+    for (_, order, _), (table, rows) in zip(wanted, rows_of(base, [table for table, _, _ in wanted])):
         written.table(table, rows, [column.word for column in table.said], order)
+
+
+def rows_of(base: TableBase, tables: list[Table]) -> Iterable[tuple[Table, Rows]]:
+    """The rows of each table, all of one moment; each has to be read before the next."""
+    if isinstance(base, postgres.Base):
+        return base.all_rows(tables)
+    return ((table, base.rows(table)) for table in tables)
+
+
+def texts_of(base: Base, side: Side, folder: pathlib.Path) -> Texts:
+    """The texts of the source's files in a folder, and those of the target's rows."""
+    texts = Texts(folder)
+    if not isinstance(base, document.Base):
+        for table, rows in rows_of(base, side.said):
+            texts.add(table.word, [column.word for column in table.said], rows)
+    return texts
 
 
 def work(words: list[str]) -> None:
     given = words_of(words)
     base, sources = opened(given)
     side = Side(given.side, base.tables(), given.drawing)
+    if given.lines_from:
+        texts = texts_of(base, side, pathlib.Path(given.data)) if given.data else None
+        proposed = proposals(pathlib.Path(given.lines_from).read_bytes(), side, texts)
+        print(side_text(side) + proposed, end="")
+        return
     if given.data:
         written = Written(given.data, sources, lambda text: remark("clio-draft", text), getattr(given, "null", None))
         wanted = wanted_sets(base, side, given.mapping)
@@ -169,8 +189,6 @@ def work(words: list[str]) -> None:
                 written.check_refs(table, given.drawing)
     if not given.mapping:
         print(side_text(side), end="")
-    if given.lines_from:
-        print(proposals(pathlib.Path(given.lines_from).read_bytes(), side), end="")
 
 
 def main() -> None:
