@@ -3,16 +3,20 @@ PostgreSQL."""
 import contextlib
 import copy
 import os
+import pty
 import random
 import sqlite3
 import subprocess
+import sys
 import unittest
 
-from trial import PROGRAM, Trial
+from trial import PROGRAM, TOOLS, Trial
 
 from chase import Chase
 from clio_tools.csv import read_table, write_table
 from clio_tools.program import Refused
+from clio_tools.sql.command import rounded
+from clio_tools.sql.forecast import Forecast
 from clio_tools.sql.script import Script
 from clio_tools.sql.servers import reached, sign
 from clio_tools.sql.words import POSTGRES, SQLITE
@@ -312,6 +316,48 @@ class SameFile(Trial):
         self.assertFalse((self.folder / "none.db").exists())
         printed = self.printed("clio-sql", "postgres", "--explain", "--core", "host=nowhere.invalid")
         self.assertIn("CREATE UNLOGGED TABLE", printed)
+
+
+class Told(Trial):
+    """What a person who waits sees on a terminal."""
+
+    def test_steps_and_time_left(self):
+        os.symlink(PROGRAM, self.folder / "clio")
+        self.file("mapping.clio", "mapping 1; source { set a { k, x; } set b { k, y; } }\n"
+                                  "target { set t { k, x, y; key (k); } }\n"
+                                  "line a.k -> t.k; line a.x -> t.x; line b.k -> t.k; line b.y -> t.y;")
+        with contextlib.closing(sqlite3.connect(self.folder / "s.db")) as base, base:
+            for name in "ab":
+                base.execute(f"CREATE TABLE {name} (k TEXT, v TEXT)")
+                base.executemany(f"INSERT INTO {name} VALUES (?, ?)", [(str(row), "v") for row in range(500)])
+            base.execute("ALTER TABLE a RENAME v TO x")
+            base.execute("ALTER TABLE b RENAME v TO y")
+        shown, terminal = pty.openpty()
+        run = subprocess.Popen([sys.executable, "-B", TOOLS / "clio-sql", "sqlite", "s.db", "t.db"], cwd=self.folder,
+                               stdout=subprocess.DEVNULL, stderr=terminal,
+                               env={**os.environ, "PATH": f"{self.folder}:{os.environ['PATH']}"})
+        self.assertEqual(run.wait(120), 0)
+        os.close(terminal)
+        said = os.read(shown, 65536).decode().replace("\r\n", "\n").splitlines()
+        os.close(shown)
+        first, *others, last = said
+        self.assertRegex(first, r"^clio-sql: step 1, matches: 1,000 rows, [0-9.]+ s; about [0-9]+ s left$")
+        self.assertTrue(all(" left" in line for line in others[:-1]), said)
+        self.assertNotIn("left", last)
+
+    def test_time_left_is_in_proportion(self):
+        forecast = Forecast()
+        self.assertIsNone(forecast.left("anything", 1))
+        forecast = Forecast()
+        forecast.expect({"matches": 10, "key of t": 20, "key of u": 5, "writing t": 30, "writing nulls": 10})
+        self.assertAlmostEqual(forecast.left("matches", 2), 13)
+        self.assertAlmostEqual(forecast.left("key of t", 7), 9 / 30 * 45)
+        self.assertAlmostEqual(forecast.left("writing t", 3), 12 / 60 * 10)  # the key of u wasn't asked
+        self.assertIsNone(forecast.left("writing nulls", 1))
+
+    def test_rounded(self):
+        self.assertEqual([rounded(seconds) for seconds in (.2, 99, 101, 5999, 6001)],
+                         ["0 s", "99 s", "2 min", "100 min", "2 h"])
 
 
 if __name__ == "__main__":

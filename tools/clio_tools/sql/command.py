@@ -21,7 +21,7 @@ All that is read of the source is of one state of it, and the target changes at 
 all; views, indexes and rights on its tables stay. A second run in the same database is refused. Work tables are in a
 schema of the run's own, which is dropped; they take a multiple of the source. --sessions N makes the matches and
 writes by N sessions at once. --verbose prints the statements with their seconds and rows; --explain prints all SQL
-and runs none. On a terminal the steps are shown as they are done.
+and runs none. On a terminal the steps are shown as they are done, and about how long the others take.
 
 With --servers the rows are on several PostgreSQL servers: each line of FILE says how one is reached, as `host=db1
 dbname=parts user=clio`. The database of CONNECTION runs the same SQL; there each table is a partitioned one whose
@@ -94,12 +94,20 @@ class Teller:
             counted = f", {rows} rows" if rows >= 0 else ""
             print(harmless(f"-- {seconds:.2f} s{counted}\n{sql};"), file=sys.stderr, flush=True)
 
-    def step(self, what: str, seconds: float, rows: int) -> None:
+    def step(self, what: str, seconds: float, rows: int, left: float | None) -> None:
         """A step that was done."""
         self.steps += 1
         if self.is_shown:
             counted = f": {rows:,} rows" if rows >= 0 else ""
-            print(harmless(f"{NAME}: step {self.steps}, {what}{counted}, {seconds:.1f} s"), file=sys.stderr, flush=True)
+            more = "" if left is None else f"; about {rounded(left)} left"
+            print(harmless(f"{NAME}: step {self.steps}, {what}{counted}, {seconds:.1f} s{more}"), file=sys.stderr,
+                  flush=True)
+
+
+def rounded(seconds: float) -> str:
+    """Seconds as far as they are known."""
+    size, unit = next((one for one in ((3600, "h"), (60, "min")) if seconds >= 100 * one[0] / 60), (1, "s"))
+    return f"{seconds / size:.0f} {unit}"
 
 
 def engine_of(words: argparse.Namespace, teller: Teller) -> Engine:

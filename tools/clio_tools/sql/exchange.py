@@ -1,11 +1,13 @@
 """The whole exchange on an engine: matches, what keys and dependencies make equal, in core mode what covers and what
 reduces, and the tables."""
 import re
+from collections.abc import Callable
 from typing import NamedTuple
 
 from clio_tools.mapping.text import Mapping, Set
 from clio_tools.sql.chase import Chase, Determination
 from clio_tools.sql.covering import Covering
+from clio_tools.sql.forecast import MATCHES, PUBLISHING, expected
 from clio_tools.sql.reducing import Reducer, Rest
 from clio_tools.sql.rigid import Rigid
 from clio_tools.sql.script import Script
@@ -36,13 +38,15 @@ class Exchange:
         """All of it."""
         self.work.engine.prepare({table.name: table.columns for table in self.tables}
                                  | {"nulls": ["null", "variable", "value"], "fold": ["null", "value"]})
-        Matches(self.work, self.script, self.mapping).make()
         asked = [one for table, given in zip(self.tables, self.mapping.target) for one in determinations(table, given)]
+        keys = [one.table for one in asked if one.right]
+        Matches(self.work, self.script, self.mapping).make(
+            lambda rows: expected(self.script, self.tables, keys, rows, self.sessions > 1))
         chase = Chase(self.work, self.tables, asked)
         chase.run()
         rest = self.reduce(chase, asked) if self.core else None
         Writer(self.work, self.script, self.heads, chase.parts, self.sessions).write(self.tables)
-        with self.work.step("putting the target in its place"):
+        with self.work.step(PUBLISHING):
             rows = self.work.engine.publish()
         return Ended(rows, rest)
 
@@ -76,19 +80,21 @@ class Matches:
     def __init__(self, work: Work, script: Script, mapping: Mapping) -> None:
         self.work, self.script, self.words, self.mapping = work, script, work.words, mapping
 
-    def make(self) -> None:
-        """Those of all rules, and of these those that are kept."""
+    def make(self, foresee: Callable[[dict[int, int]], dict[str, float]]) -> None:
+        """Those of all rules, and of these those that are kept; `foresee` says of their rows what steps are to come."""
         names = self.passing()
         numbered = {insert.rule for insert in self.script.inserts if insert.has_null}
-        tables = []
+        tables: dict[int, Made] = {}
         for rule in self.script.matches:
             query = self.query(rule, names, rule in numbered or bool(self.script.covers))
             if rule in numbered or self.script.covers or not self.work.engine.is_one_snapshot or self.inserts(rule) > 1:
-                tables.append(Made(f"m{rule}", query, self.joined_by(rule)))
+                tables[rule] = Made(f"m{rule}", query, self.joined_by(rule))
             else:
                 self.work.engine.run(f"CREATE {self.words.view} m{rule} AS {query}")
-        with self.work.step("matches"):
-            self.work.engine.make_all(tables)
+        with self.work.step(MATCHES) as rows:
+            counts = self.work.engine.make_all(list(tables.values()))
+            rows.append(sum(counts))
+            self.work.forecast.expect(foresee(dict(zip(tables, counts))))
         if self.script.covers:
             with self.work.step("matches that nothing covers"):
                 self.work.engine.make_all([Made(f"k{rule}", self.kept(rule)) for rule in self.script.covers])

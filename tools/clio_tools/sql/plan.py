@@ -37,9 +37,8 @@ class Plan:
             self.run(f"ANALYZE {table.name}")
         return -1
 
-    def make_all(self, tables: Sequence[Made]) -> None:
-        for table in tables:
-            self.make(table)
+    def make_all(self, tables: Sequence[Made]) -> list[int]:
+        return [self.make(table) for table in tables]
 
     def load(self, name: str, columns: Sequence[str], rows: Sequence[Row]) -> None:
         self.run(f"CREATE {self.words.table} {name} ({', '.join(columns)})")

@@ -103,18 +103,17 @@ class Postgres:
         self.one.made(analyze)
         return rows
 
-    def make_all(self, tables: Sequence[Made]) -> None:
+    def make_all(self, tables: Sequence[Made]) -> list[int]:
         if self.is_one_snapshot:
-            for table in tables:
-                self.make(table)
-            return
+            return [self.make(table) for table in tables]
         self.one.made("BEGIN ISOLATION LEVEL REPEATABLE READ")
         snapshot = self.one.values("SELECT pg_export_snapshot()")[0][0]
         for session in self.sessions[1:]:
             session.made(f"BEGIN ISOLATION LEVEL REPEATABLE READ; SET TRANSACTION SNAPSHOT '{snapshot}'")
-        self.together(["; ".join(made(table)) for table in tables])
+        rows = self.together(["; ".join(made(table)) for table in tables])  # of the first statement of each
         for session in reversed(self.sessions):
             session.made("COMMIT")
+        return rows
 
     def together(self, statements: Sequence[str]) -> list[int]:
         """Runs statements that don't hang on each other, on all sessions at once; answers the rows of each. An

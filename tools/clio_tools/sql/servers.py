@@ -173,14 +173,14 @@ class Servers(Postgres):
         for server in self.servers:
             server.session.made(f"ANALYZE {server.schema('work')}.{name}")
 
-    def make_all(self, tables: Sequence[Made]) -> None:
+    def make_all(self, tables: Sequence[Made]) -> list[int]:
         for table in tables:
             self.spread_work(table)
         with self.one.transaction("BEGIN ISOLATION LEVEL REPEATABLE READ"):
-            for table in tables:
-                self.one.made(f"INSERT INTO {table.name} {table.query}")
+            rows = [self.one.made(f"INSERT INTO {table.name} {table.query}") for table in tables]
         for table in tables:
             self.analyze(table.name)
+        return rows
 
     def load(self, name: str, columns: Sequence[str], rows: Sequence[Row]) -> None:
         parted = [column.split(" ", 1) for column in columns]

@@ -81,9 +81,10 @@ class Sqlite:
             self.run(f"CREATE INDEX {table.name}_by ON {table.name} ({', '.join(table.by)})")
         return -1
 
-    def make_all(self, tables: Sequence[Made]) -> None:
+    def make_all(self, tables: Sequence[Made]) -> list[int]:
         for table in tables:
             self.make(table)
+        return [int(self.asked(f"SELECT count(*) FROM {table.name}").fetchone()[0]) for table in tables]
 
     def load(self, name: str, columns: Sequence[str], rows: Sequence[Row]) -> None:
         self.run(f"CREATE TABLE {name} ({', '.join(columns)})")

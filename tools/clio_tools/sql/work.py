@@ -4,10 +4,12 @@ import time
 from collections.abc import Callable, Iterator, Sequence
 from typing import Any, NamedTuple, Protocol
 
+from clio_tools.sql.forecast import Forecast
 from clio_tools.sql.words import Words
 
 Row = tuple[Any, ...]
-Report = Callable[[str, float, int], None]  # what was done, in how many seconds, and how many rows it made (or -1)
+# what was done, in how many seconds, how many rows it made (or -1), and how many seconds may be left, if that is known
+Report = Callable[[str, float, int, float | None], None]
 
 
 class Made(NamedTuple):
@@ -36,8 +38,8 @@ class Engine(Protocol):
     def make(self, table: Made) -> int:
         """Makes a work table; answers its rows."""
 
-    def make_all(self, tables: Sequence[Made]) -> None:
-        """Makes work tables that don't hang on each other, of one state of the source."""
+    def make_all(self, tables: Sequence[Made]) -> list[int]:
+        """Makes work tables that don't hang on each other, of one state of the source; answers the rows of each."""
 
     def load(self, name: str, columns: Sequence[str], rows: Sequence[Row]) -> None:
         """Makes a work table of rows that the tool has; each column is given with its type."""
@@ -52,7 +54,7 @@ class Engine(Protocol):
         """Leaves nothing behind but what was published."""
 
 
-def silent(what: str, seconds: float, rows: int) -> None:
+def silent(what: str, seconds: float, rows: int, left: float | None) -> None:
     """Reports nothing."""
 
 
@@ -61,7 +63,7 @@ class Work:
 
     def __init__(self, engine: Engine, report: Report = silent) -> None:
         self.engine, self.words, self.report = engine, engine.words, report
-        self.counter = 0
+        self.counter, self.forecast = 0, Forecast()
 
     def name(self, kind: str) -> str:
         """A name that no other work table has."""
@@ -73,7 +75,8 @@ class Work:
         """Something that is done and told; who does it puts the number of rows to the list."""
         began, rows = time.monotonic(), [-1]
         yield rows
-        self.report(what, time.monotonic() - began, rows[-1])
+        seconds = time.monotonic() - began
+        self.report(what, seconds, rows[-1], self.forecast.left(what, seconds))
 
     def made(self, kind: str, query: str, by: Sequence[str] = (), what: str = "") -> str:
         """The name of a work table that is made of a query."""
