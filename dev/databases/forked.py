@@ -1,4 +1,7 @@
-"""The tools, each run in a process of its own that has the modules of this one, which saves most of its time: for dev/check."""
+"""The tools, each run in a process of its own that has the modules of this one, which saves most of its time: for
+dev/check.
+"""
+import importlib
 import os
 import pathlib
 import runpy
@@ -7,9 +10,8 @@ import sys
 import tempfile
 import traceback
 
-from clio_tools.draft import postgres, sqlite  # noqa: F401  pylint: disable=unused-import
-from clio_tools.tables import bases  # noqa: F401  pylint: disable=unused-import
-from clio_tools.sql import command as sql  # noqa: F401  pylint: disable=unused-import
+for module in "draft.postgres", "draft.sqlite", "tables.bases", "sql.command":
+    importlib.import_module(f"clio_tools.{module}")
 
 TOOLS = pathlib.Path(__file__).resolve().parent.parent.parent / "tools"
 

@@ -3,7 +3,7 @@ import re
 
 from chase import Chase
 from covers import CoveredPlaces, Covers
-from files import csv_records, csv_text, fold_text, moved, nested_text, nulls_text, rows_of, table_text
+from files import csv_records, fold_text, moved, nested_text, nulls_text, rows_of, table_text
 from homomorphisms import core_of, homomorphism, is_core, largest_block
 from refusals import Limit
 from matches import canonical, facts_of, places_of

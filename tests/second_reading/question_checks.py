@@ -8,7 +8,7 @@ from damage import damage_file
 from folders import folder_mapping
 from hostile import check_ending
 from pair_cases import ALIKE
-from program import Folder, Run
+from program import Run
 from questions import wanted_run
 from refusals import WRITE_FAULT, Unsure
 

@@ -116,11 +116,11 @@ class Ids(Trial):
             }
             rule sent(i, s, t) -> delivery(i, p), place(p, s, t);
             rule parcel(i, w) -> content(i, w);"""
-        for town, number in ("Paris", "1"), ("Portland", "2"), ("Paris", "1"):
+        for town, place in ("Paris", "1"), ("Portland", "2"), ("Paris", "1"):
             self.exchange(mapping, sent=[["id", "street", "town"], ["7", "Main", town]], parcel=[["id", "what"], ["7", "tea"]])
             self.printed("clio-ids", "ids.db")
-            self.assertEqual(self.table("place", ["pid", "street", "town"]), [[number, "Main", town]])
-            self.assertEqual(self.table("delivery", ["id", "place"]), [["7", number]])
+            self.assertEqual(self.table("place", ["pid", "street", "town"]), [[place, "Main", town]])
+            self.assertEqual(self.table("delivery", ["id", "place"]), [["7", place]])
 
     def test_two_keys(self):
         """The first key that is known decides; a value that another thing had last is not one's own any more."""
