@@ -51,12 +51,12 @@ That of clio; 128 and the number of a signal if one ended it; 1 if there is no c
 import os
 import subprocess
 import sys
+import traceback
 from collections.abc import Iterable
 
 from clio_tools.explain.endings import explained
-from clio_tools.explain.program import program
 from clio_tools.explain.said import visible
-from clio_tools.program import run
+from clio_tools.program import WHOLE, Refused, ending, program, run
 from clio_tools.version import version_lines
 
 
@@ -65,24 +65,23 @@ def say(lines: Iterable[str], before: str) -> None:
     try:
         for line in lines:
             os.write(2, f"{before}{line}\n".encode("utf-8", "backslashreplace"))
-    except MemoryError:
-        os.write(2, b"clio-explain: memory ran out\n")
     except Exception as error:  # pylint: disable=broad-except
-        said = f"clio-explain: no more can be said of it ({type(error).__name__}: {str(error)[:200]})\n"
+        if os.environ.get(WHOLE):
+            traceback.print_exc()
+        said = f"clio-explain: no more can be said of it: {visible(ending(error)[1])}\n"
         os.write(2, said.encode("utf-8", "backslashreplace"))
 
 
-def main() -> None:
+def work(words: list[str]) -> None:
     """Runs clio, then explains."""
-    words = sys.argv[1:]
     if words == ["version"]:
-        run("clio-explain", lambda _: print("\n".join(version_lines())))
+        print("\n".join(version_lines()))
         return
-    clio = program()
-    if not clio:
-        sys.exit("clio-explain: there is no clio on the path, and none was built")
     try:
+        clio = program()
         ended = subprocess.run([clio, *words], stderr=subprocess.PIPE, check=False)
+    except Refused as why:
+        sys.exit(f"clio-explain: {why}")
     except OSError as error:
         sys.exit(f"clio-explain: {clio}: {error.strerror}")
     try:
@@ -94,3 +93,8 @@ def main() -> None:
     except OSError:
         pass  # nobody reads standard error
     sys.exit(ended.returncode if ended.returncode >= 0 else 128 - ended.returncode)
+
+
+def main() -> None:
+    """Runs the tool."""
+    run("clio-explain", work)

@@ -9,9 +9,9 @@ from collections.abc import Iterator
 
 from clio_tools.explain import mapping_faults
 from clio_tools.explain.placed import MappingText
-from clio_tools.explain.program import program
 from clio_tools.explain.said import visible, with_caret
 from clio_tools.mapping.tables import SetTree
+from clio_tools.program import program
 
 Placed = tuple[SetTree | None, list[str]]  # a set with its clauses
 

@@ -1,20 +1,10 @@
 """The program, and the mapping whose rules it prints."""
 import os
 import pathlib
-import shutil
 import subprocess
 
 from clio_tools.mapping.meaning import Mapping, read_mapping
-from clio_tools.program import FINDER, Refused
-
-
-def program() -> str:
-    """The path of clio: the one on the path, or else the one that dev/program names."""
-    found = shutil.which("clio")
-    if found:
-        return found
-    ended = subprocess.run([FINDER], stdout=subprocess.PIPE, stderr=subprocess.DEVNULL, check=False)
-    return os.fsdecode(ended.stdout).strip()
+from clio_tools.program import Refused, program
 
 
 def printed_rules(folder: pathlib.Path | None = None) -> list[bytes] | None:

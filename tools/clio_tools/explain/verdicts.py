@@ -9,12 +9,13 @@ from collections.abc import Iterable, Iterator
 from clio_tools.csv import records
 from clio_tools.explain.given_faults import FOLDER
 from clio_tools.explain.joins import Matches, TooMany
-from clio_tools.explain.program import mapping_of, program
+from clio_tools.explain.program import mapping_of
 from clio_tools.explain.said import amount, listed, shown, visible
 from clio_tools.explain.source import Source
 from clio_tools.mapping.meaning import Mapping
 from clio_tools.mapping.rules import EXISTENTIAL, Rule
 from clio_tools.mapping.tables import Table
+from clio_tools.program import program
 
 FORM = re.compile(r"verdict not a solution: (?:rule (\d+) place (\d+)|(key|link) (\d+) of table (\w+))\n", re.ASCII)
 ROWS = 3  # rows that are told of a link that doesn't hold
