@@ -31,6 +31,7 @@ from clio_tools.program import Refused
 from clio_tools.safe_files import check_place
 
 VERSION = 2
+OF_HASHES = 1  # the version that kept a SHA-256 in the place of each name
 SIGN = 0x636C696F  # application_id: the letters clio
 CACHE = 65536  # KiB of each file that are held in memory
 LONGEST = 400  # letters of a key that are kept as they are
@@ -125,8 +126,14 @@ class Crosswalk:
 
     def check(self) -> None:
         """The file is one that clio-ids made, and whole."""
-        if self.one("PRAGMA application_id") != SIGN or self.one("PRAGMA user_version") != VERSION:
-            raise Refused(f"{self.path} is no crosswalk of this clio-ids")
+        made_by = self.one("PRAGMA user_version")
+        if self.one("PRAGMA application_id") != SIGN:
+            raise Refused(f"{self.path} is no crosswalk")
+        if made_by == OF_HASHES:
+            raise Refused(f"{self.path} was made by an older clio-ids, which kept names as hashes alone, so its numbers"
+                          " can't be taken over: name a new file, and load all tables anew")
+        if made_by != VERSION:
+            raise Refused(f"{self.path} was made by another clio-ids than this one")
         why = check_contents(self.base, statements())
         if why:
             raise Refused(f"{self.path} is damaged: {why}. Nothing is changed: put a copy in its place that is whole")
