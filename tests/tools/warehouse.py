@@ -49,7 +49,7 @@ rule depot(c, t, l) -> warehouse(c, i), town(i, t, l), country(l);
 rule offer(s, t, p, k) -> product(i, s, t, p, j, m), category(j, k);
 rule client(m, n, b, a) -> customer(i, m, n, b, a);
 rule sale(n, m, p, t), client(m, x, b, a) -> orders(n, i, p, t), customer(i, m, x, b, a);
-rule item(n, s, a), sale(n, m, p, t), offer(s, u, r, k)
+rule item(n, s, a), sale(n, m, p, t), client(m, x, b, v), offer(s, u, r, k)
   -> order_line(n, i, a), product(i, s, u, r, j, f), category(j, k);
 rule held(c, s, q), offer(s, t, p, k), depot(c, o, l) -> stock(c, i, q), product(i, s, t, p, j, f), category(j, k);
 rule visit(m, d), client(m, n, b, a) -> visit(i, d), customer(i, m, n, b, a);
