@@ -13,7 +13,7 @@ return [q.x + r.x, q.y + r.y] })()"""
 COLOUR = "getComputedStyle(document.querySelector('%s')).backgroundColor"
 SELECTED = "(() => { const t = document.getElementById('text'); return t.value.slice(t.selectionStart, t.selectionEnd) })()"
 OTHER_PAGE = """fetch('api/live', { method: 'POST', headers: { 'Content-Type': 'application/json' }, body: JSON.stringify(
-{ text: 'mapping 1; source { } target { }', name: 'mapping.clio', core: false, rows: 9, whole: false }) })"""
+{ text: 'mapping 1; source { } target { }', core: false, rows: 9, whole: false }) })"""
 OPEN_ALL = """(() => { for (const s of ['source', 'target']) { clioDraw.sides[s].filter = '';
 clioDraw.sides[s].collapsed.clear(); } clioDraw.drawTrees(); clioDraw.drawCurves(); })()"""
 

@@ -64,9 +64,9 @@ class Served(unittest.TestCase):
         self.assertEqual(status, 200)
         return json.loads(content)
 
-    def live(self, text: str, whole: bool = False, name: str = MAPPING) -> Any:
+    def live(self, text: str, whole: bool = False) -> Any:
         """A live run."""
-        return self.call("live", text=text, name=name, core=False, rows=100, whole=whole)
+        return self.call("live", text=text, core=False, rows=100, whole=whole)
 
 
 class Requests(Served):
@@ -99,7 +99,7 @@ class Requests(Served):
         good = {"Origin": f"http://{self.host}", "Content_Type": "application/json"}
         for name, words in (("outline", {"text": 5}), ("outline", {}), ("outline", {"text": "", "more": 1}),
                             ("outline", {"text": "\ud800"}), ("why", {"whole": False, "run": 1, "table": "a", "row": 1}),
-                            ("live", {"text": "", "name": "", "core": 1, "rows": 9, "whole": False}),
+                            ("live", {"text": "", "core": 1, "rows": 9, "whole": False}),
                             ("edit", {"text": "", "action": []})):
             body = json.dumps(words).encode()
             self.assertEqual(self.ask("POST", f"{self.base}api/{name}", body, **good)[0], 400, (name, words))

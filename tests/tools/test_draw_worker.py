@@ -14,6 +14,7 @@ import draw_trial
 from trial import PROGRAM, TIMES
 
 from clio_tools.draw.faults import place_of
+from clio_tools.draw.outline import Outline
 from clio_tools.draw.worker import Worker
 
 TWO_FILES = ("mapping 1; source { set a { x, y; ref (y) -> b (z); } set b { z, w; } } target { set c { u, v; } } "
@@ -29,9 +30,9 @@ class Asked:
     def __call__(self, do: str, **words: object) -> Any:
         return self.worker.answer({"do": do, **words})
 
-    def live(self, text: str, core: bool = False, rows: int | None = 100, is_drawing: bool = False) -> Any:
+    def live(self, text: str, core: bool = False, rows: int | None = 100) -> Any:
         """A live run."""
-        return self("live", text=text, is_drawing=is_drawing, core=core, rows=rows)
+        return self("live", text=text, core=core, rows=rows)
 
 
 def clio(folder: pathlib.Path, *words: str) -> "subprocess.CompletedProcess[bytes]":
@@ -59,6 +60,8 @@ class Live(unittest.TestCase):
 
     def of_example(self, folder: pathlib.Path, content: bytes, core: bool, found: list[int]) -> None:
         """A run ends as clio does, each of its rows has a reason, and each source row goes somewhere or is unused."""
+        if Outline(content).is_drawing:  # refs in a circle: the page takes them, and clio doesn't
+            return
         ended = clio(folder, "exchange", *["--core"] * core)
         if b"absent" in ended.stderr:  # there the page makes rows up
             return
@@ -100,7 +103,7 @@ class Live(unittest.TestCase):
     def test_a_drawing_runs_as_its_mapping(self) -> None:
         folder = draw_trial.EXAMPLES / "flights"
         ask = Asked(folder)
-        made = ask.live((folder / "drawing.clio").read_text(), is_drawing=True)
+        made = ask.live((folder / "drawing.clio").read_text())
         self.assertEqual(made["tables"]["leg"]["rows"], [["F1", "Frankfurt", "New York"], ["F2", "Frankfurt", "?0.1.1"],
                                                          ["F3", "?0.0.2", "New York"]])
         self.assertEqual([rule["words"]["lines"] for rule in made["rules"]], [[0], [1], [2]])

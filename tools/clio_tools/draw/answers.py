@@ -1,12 +1,14 @@
 """What the page can ask for, by name, and what it gets."""
+import pathlib
 import threading
 from collections.abc import Callable
 from typing import NamedTuple
 
 from .change import CannotEdit
 from .checked import checked
+from .drafting import FOLDER as DRAFTED
 from .edits import edited
-from .folder import DRAWING, CannotRead, CannotSave, ChangedOnDisk, Folder
+from .folder import CannotRead, CannotSave, ChangedOnDisk, Folder
 from .helper import Helper
 from .outline import Data, as_data
 from .units import Units
@@ -41,13 +43,15 @@ class Answers:
             "open": Asked(self.open, {}), "disk": Asked(self.disk, {"name": str}),
             "outline": Asked(self.outline, {"text": str}), "edit": Asked(self.edit, {"text": str, "action": dict}),
             "save": Asked(self.save, {"text": str, "name": str, "digest": str, "ends": str}),
-            "live": Asked(self.live, {"text": str, "name": str, "core": bool, "rows": int, "whole": bool}),
+            "live": Asked(self.live, {"text": str, "core": bool, "rows": int, "whole": bool}),
             "warnings": Asked(self.of_run("warnings"), run), "sources": Asked(self.of_run("sources"), run),
             "why": Asked(self.of_run("why"), {**run, "table": str, "row": list}),
             "forward": Asked(self.of_run("forward"), {**run, "table": str, "row": int}),
             "more": Asked(self.of_run("more"), {**run, "table": str, "start": int}),
             "arrange": Asked(self.job("arrange"), {"text": str}),
             "proposals": Asked(self.job("proposals"), {"text": str}),
+            "draft": Asked(self.draft, {"text": str, "kind": str, "place": str, "schema": str, "side": str,
+                                        "drawing": bool, "data": bool}),
             "ways": Asked(self.job("ways"), {"text": str, "source": list, "target": list}),
         }
 
@@ -107,12 +111,27 @@ class Answers:
                 return {"error": f"{name}: {why.strerror}"}
         return {"digest": saved.digest, "name": saved.name}
 
-    def live(self, text: str, name: str, core: bool, rows: int, whole: bool) -> Data:
+    def live(self, text: str, core: bool, rows: int, whole: bool) -> Data:
         """What clio makes of a text: of large files on their first rows, or on the whole of them."""
         if not whole:
             self.helpers[True].overtake()  # its text is an old one now
         most = None if whole else max(1, min(rows, MOST_ROWS))
-        return self.helpers[whole].ask(do="live", text=text, is_drawing=name == DRAWING, core=core, rows=most)
+        return self.helpers[whole].ask(do="live", text=text, core=core, rows=most)
+
+    def draft(self, text: str, data: bool, side: str, **words: object) -> Data:
+        """A text with a side that is drafted anew; with data the files that it reads are put into the folder."""
+        helper = self.helpers[False]
+        made = helper.ask(do="draft", side=side, data=data, **words)
+        if "error" in made:
+            return made
+        edit = self.edit(text, {"do": "side", "side": side, "text": made["text"]})
+        if "error" in edit or not data:
+            return {**edit, "remarks": made["remarks"], "files": []}
+        try:
+            files = self.folder.take(pathlib.Path(helper.room, DRAFTED))
+        except (CannotSave, OSError) as why:
+            return {"error": f"no files were written: {why}"}
+        return {**edit, "remarks": made["remarks"], "files": files}
 
     def of_run(self, do: str) -> Callable[..., Data]:
         """What is asked of a run."""

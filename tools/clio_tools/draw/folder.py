@@ -2,6 +2,7 @@
 import hashlib
 import os
 import pathlib
+import shutil
 from dataclasses import dataclass
 
 from ..program import Refused
@@ -99,13 +100,24 @@ class Folder:
         content = text.replace("\n", ends).encode("utf-8")
         if len(content) > MOST_BYTES:
             raise CannotSave("the text is longer than clio reads")
-        if name == MAPPING and Outline(text.encode()).has_notes:
+        if name == MAPPING and Outline(text.encode()).is_drawing:
             name, seen = DRAWING, ABSENT
         path = self.path / name
         if path.is_symlink():
             raise CannotSave(f"{name} is a link to another file: save it where it is")
         self._replace(path, content, seen)
         return Saved(name, digest_of(content))
+
+    def take(self, drafted: pathlib.Path) -> list[str]:
+        """Copies the files of a draft into the folder; one that is there is not replaced."""
+        paths = sorted(drafted.iterdir()) if drafted.is_dir() else []
+        there = [path.name for path in paths if os.path.lexists(self.path / path.name)]
+        if there:
+            raise CannotSave(f"{', '.join(there[:8])} {'is' if len(there) == 1 else 'are'} there already, and not replaced")
+        for path in paths:
+            with open(path, "rb") as source, open(self.path / path.name, "xb") as file:
+                shutil.copyfileobj(source, file)
+        return [path.name for path in paths]
 
     def _replace(self, path: pathlib.Path, content: bytes, seen: str) -> None:
         """Puts a file in its place, on the disk, if what is there was seen."""

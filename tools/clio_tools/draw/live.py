@@ -57,7 +57,7 @@ class Live:
         self.reasons: Reasons | None = None
         self.shown = SHOWN
 
-    def run(self, text: str, is_drawing: bool, core: bool, rows: int | None) -> Data:
+    def run(self, text: str, core: bool, rows: int | None) -> Data:
         """Runs `show` and `exchange` on a text, on so many rows of large files or on all."""
         began = time.monotonic()
         self.content, self.core = text.encode(), core
@@ -65,7 +65,7 @@ class Live:
         self.number += 1
         made: Data = {"run": self.number, "rules": None, "fault": None, "stopped": None, "tables": None, "sources": {},
                       "drawing": False, "remarks": [], "whole": rows is None}
-        self.meant = meant(self.content, is_drawing)
+        self.meant = meant(self.content)
         made["drawing"], made["remarks"] = self.meant.is_drawing, list(self.meant.remarks)
         if self.meant.faults:
             made["fault"] = faults.of_drawing(self.meant.faults, self.content)

@@ -42,10 +42,9 @@ class Meant:
         return self.behind[place] if 0 <= place < len(self.behind) else None
 
 
-def meant(content: bytes, is_drawing: bool) -> Meant:
-    """The mapping of a text; notes make it a drawing whatever its name is."""
-    outline = Outline(content)
-    if not outline.has_notes and not (is_drawing and outline.has_circles):
+def meant(content: bytes) -> Meant:
+    """The mapping of a text; what only a drawing can say makes it one, whatever the name of its file is."""
+    if not Outline(content).is_drawing:
         return Meant(content)
     try:
         drawing = worked_out(content)

@@ -34,8 +34,11 @@ class Outline:
             or any(not one.is_plain for one in parts.rules)
 
     @property
-    def has_circles(self) -> bool:
-        """Whether refs lead in a circle, which only a drawing can have."""
+    def is_drawing(self) -> bool:
+        """Whether it has notes, or refs in a circle, which only a drawing can have."""
+        return self.has_notes or self._has_circles()
+
+    def _has_circles(self) -> bool:
         sides = [schema_of(self.tree.source, "source", True), schema_of(self.tree.target, "target", True)]
         return any(link.circular for side in sides for table in side.schema.tables for link in table.links)
 
@@ -48,7 +51,7 @@ class Outline:
         at = Units(self.content)
         parts = self.tree
         return {
-            "readable": self.is_read, "fault": self.fault, "version": parts.version, "notes": self.has_notes,
+            "readable": self.is_read, "fault": self.fault, "version": parts.version, "drawing": self.is_drawing,
             "source": [_set(one, at) for one in parts.source.sets] if self.is_read else None,
             "target": [_set(one, at) for one in parts.target.sets] if self.is_read else None,
             "lines": [_line(one, at) for one in parts.lines],

@@ -2,6 +2,7 @@
 from collections.abc import Callable, Sequence
 
 from ..mapping import tree
+from ..mapping.tokens import lexed
 from . import spelling
 from .change import CannotEdit, Change
 
@@ -87,8 +88,21 @@ def delete_clause(change: Change, side: str, set_name: str, kind: str, index: in
         change.replace(len(before.rstrip(b" \t")), part.end, "")
 
 
+def side(change: Change, side: str, text: str) -> None:  # pylint: disable=redefined-outer-name
+    """Another text of a whole side."""
+    parts = {"source": change.parts.source, "target": change.parts.target}
+    if side not in parts:
+        raise CannotEdit("a side is the source or the target")
+    made = text.strip()
+    start = parts[side].start
+    change.replace(start, parts[side].end, made)
+    if any(token.text == "optional" for token in lexed(made.encode()).tokens):
+        change.at_least(2)
+
+
 ACTIONS: dict[str, tuple[Callable[..., None], dict[str, type]]] = {
     "optional": (optional, {"side": str, "set_name": str, "index": int, "wanted": bool}),
     "add_clause": (add_clause, {"side": str, "set_name": str, "clause": dict}),
+    "side": (side, {"side": str, "text": str}),
     "delete_clause": (delete_clause, {"side": str, "set_name": str, "kind": str, "index": int}),
 }

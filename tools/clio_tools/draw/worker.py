@@ -13,6 +13,7 @@ from ..picture.lines import edges_of
 from ..picture.ordering import ordered
 from ..program import Refused
 from .choices import choices
+from .drafting import drafted
 from .live import Live
 from .meant import bare
 from .outline import Data
@@ -39,7 +40,8 @@ class Worker:
         self.jobs: dict[str, Callable[..., Data]] = {
             "live": self.live.run, "more": self.live.more, "warnings": self.live.warnings, "why": self.live.why,
             "sources": self.live.sources, "forward": self.live.forward, "arrange": self.arrange,
-            "proposals": self.proposals, "ways": self.ways}
+            "proposals": self.proposals, "ways": self.ways,
+            "draft": self.draft}
 
     def answer(self, job: dict[str, Any]) -> Data:
         """What a job gives; no failure ends this process."""
@@ -48,8 +50,10 @@ class Worker:
             if job.pop("run", self.live.number) != self.live.number:
                 raise Stale("these rows are of an earlier run: another page of this clio-draw has run since")
             return self.jobs[job.pop("do")](**job)
-        except (Stopped, Stale) as why:
+        except (Stopped, Stale, Refused) as why:
             return {"error": str(why)}
+        except OSError as why:
+            return {"error": f"{why.filename}: {why.strerror}" if why.filename else str(why)}
         except (Exception, MemoryError) as error:  # pylint: disable=broad-except
             return {"error": f"{type(error).__name__}: {str(error)[:300]}"}
 
@@ -64,6 +68,10 @@ class Worker:
     def ways(self, text: str, source: list[str | None], target: list[str]) -> Data:
         """The ways that a line could go, with a row of each."""
         return choices(text, source, target, self.live.sampler)
+
+    def draft(self, **words: Any) -> Data:
+        """A side drafted from what is elsewhere."""
+        return drafted(**words, folder=self.folder)
 
     @staticmethod
     def arrange(text: str) -> Data:

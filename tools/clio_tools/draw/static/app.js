@@ -6,6 +6,7 @@ import { showInspector } from "./inspector.js";
 import { because, edit, isWhole, leftOf, loadTheirs, model, nameOf, on, open, redo, save, select, setLive, setNamed, undo } from "./model.js";
 import * as results from "./results.js";
 import * as textpane from "./textpane.js";
+import { startDrafts } from "./drafts.js";
 import { connect } from "./ways.js";
 import { arrange, drawTrees, focusRow, foldAll, liveTrees, markRows, show as showRow, sides, toggle } from "./trees.js";
 
@@ -17,7 +18,7 @@ const redraw = () => { drawTrees(); markRows(); curves(); };
 let runs = 0;
 async function run() {
   const number = ++runs, text = model.text, began = performance.now();
-  const asked = { text, name: model.name, core: byId("core").checked, rows: Number(byId("rows").value) };
+  const asked = { text, core: byId("core").checked, rows: Number(byId("rows").value) };
   byId("results").setAttribute("aria-busy", "true");
   let live = await ask("live", { ...asked, whole: false });
   if (number !== runs) return;
@@ -102,7 +103,7 @@ function startPointer() {
   for (const side of ["source", "target"]) {
     byId(side).addEventListener("pointerdown", (event) => {
       const row = event.target.closest(side === "source" ? ".row" : ".row.column");
-      if (!row || event.button !== 0 || event.target.closest("button")) return;
+      if (!row || event.button !== 0) return;
       drag = { side, column: [row.dataset.set, row.dataset.column ?? null], x: event.clientX, y: event.clientY, moved: false, over: null, event };
     });
   }
@@ -196,6 +197,7 @@ function treeKey(side, event) {
     ArrowRight: () => { if (!column) { toggle(side, set, true); redraw(); focusRow(side, sides[side].at.get(set).place); } else if (side === "source") focusRow("target", nearest("target")); },
     ArrowLeft: () => { if (!column) { toggle(side, set, false); redraw(); focusRow(side, sides[side].at.get(set).place); } else focusRow(side, sides[side].at.get(set)?.place ?? 0); },
     Enter: () => pick(side, set, column), " ": () => pick(side, set, column),
+    ContextMenu: () => select({ kind: "set", side, set }), F10: () => event.shiftKey && select({ kind: "set", side, set }),
     Escape: () => { model.picked = model.pairing = null; select(null); say("nothing is picked"); },
     Delete: () => removeAt(side, set, column), Backspace: () => removeAt(side, set, column),
   }[event.key];
@@ -259,6 +261,7 @@ function start() {
   textpane.start();
   startPointer();
   startKeys();
+  startDrafts(run);
   open();
 }
 start();

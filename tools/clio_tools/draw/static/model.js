@@ -16,6 +16,7 @@ export const model = {
   pairing: null, // a line that waits for its second column
   because: new Set(), becauseRule: null, ghost: null,
   live: null, liveText: null, shown: null,
+  drafted: [], // what clio-draft remarked
   base: new Map(), // the numbers of rows of the text that was saved last, for each kind of run
 };
 
@@ -87,6 +88,17 @@ export function edit(action, said) {
   return queue;
 }
 
+// A text that the server has made: it is one step of undo.
+export function replaceText(made) {
+  remember();
+  model.typed = 0;
+  Object.assign(model, { text: made.text, selection: null, shown: made.shown });
+  wanted++;
+  take(made.outline);
+  tell("text"); tell("outline"); tell("selection");
+  model.shown = null;
+}
+
 function selectAt(place) {
   const index = model.outline.lines.findIndex((line) => line.at[0] === place);
   if (index >= 0) model.selection = { kind: "line", index };
@@ -114,9 +126,8 @@ export async function save(over = null) {
   const text = model.text;
   const made = await ask("save", { text, name: model.name, digest: over ?? model.digest, ends: model.ends });
   if (made.digest) {
-    const isNew = made.name !== model.name;
     Object.assign(model, { digest: made.digest, name: made.name, saved: text });
-    say(isNew ? `saved as ${made.name}, since it has notes` : "saved");
+    say(made.name === "drawing.clio" ? "saved as drawing.clio, of which clio-rules --write makes mapping.clio" : "saved");
     keepBase();
     tell("saved");
   }

@@ -266,7 +266,7 @@ const says2 = (kind, says) => ({ is: h("span", {}, " = ", h("code", {}, says)), 
 export const cureButtons = (cures) => (cures ?? []).map((one) => h("button", { class: "cure", onclick: () => edit(one.action, one.title) }, one.title));
 
 function showWarnings(live, list) {
-  list = [...(live.remarks ?? []).map((said) => ({ lines: [said] })), ...list];
+  list = [...[...model.drafted, ...(live.remarks ?? [])].map((said) => ({ lines: [said] })), ...list];
   title("warnings", list.length);
   fill(panels.warnings, ...(list.length ? list.map((one) => h("div", { class: "warning" }, one.lines.map((line) => h("p", { class: line.startsWith("   ") ? "more" : "" }, line.trim())), cureButtons(one.cures))) : [h("p", { class: "empty" }, live.fault ? "None while there is a fault." : "None.")]));
 }

@@ -42,7 +42,8 @@ const sourceSets = () => [...setsOf(model.outline.source)].map(([tree]) => tree.
 
 function lookup(set) {
   const isOne = model.outline.lookups.includes(set);
-  return h("label", {}, h("input", { type: "checkbox", checked: isOne, onchange: () => edit({ do: "lookup", name: set, wanted: !isOne }, isOne ? "no lookup" : `lookup ${set}`) }), " links to it go through a set of their own (lookup)");
+  const draw = () => { model.picked = [set, null]; select(model.selection); say(`from the whole set ${set}: choose a target column with a ref`); };
+  return h("span", {}, h("button", { onclick: draw }, "draw a line from the whole set"), " ", h("label", {}, h("input", { type: "checkbox", checked: isOne, onchange: () => edit({ do: "lookup", name: set, wanted: !isOne }, isOne ? "no lookup" : `lookup ${set}`) }), " links to it go through a set of their own (lookup)"));
 }
 
 // --- its clauses ---

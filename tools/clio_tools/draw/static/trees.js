@@ -76,7 +76,7 @@ function drawSide(side, { lined, texts, tests, ends }) {
   }
   side.rows = rows;
   rows.forEach((row, place) => { side.at.set(row.dataset.key, { place }); });
-  if (!rows.length) rows.push(h("p", { class: "empty panel" }, filter ? "nothing matches" : "no sets yet: declare them in the text, or let clio-draft print them"));
+  if (!rows.length) rows.push(h("p", { class: "empty panel" }, filter ? "nothing matches" : "no sets yet: draft them from a database or from files by the button above, or declare them in the text"));
   box.replaceChildren(...rows);
   byId(`${side.name}-fold`).textContent = sets.some(([tree]) => !side.collapsed.has(tree.name)) ? "collapse" : "expand";
   const again = active && rows.find((row) => row.dataset.key === active);
@@ -87,7 +87,7 @@ function drawSide(side, { lined, texts, tests, ends }) {
 
 function setRow(side, tree, level, isOpen, count) {
   const row = h("div", { class: "row set", role: "treeitem", tabindex: -1, "aria-level": level, "aria-expanded": String(isOpen), "data-key": tree.name, "data-set": tree.name,
-    "aria-label": `${level > 1 ? "inner set" : "set"} ${tree.name}, ${counted(count, "column")}` },
+    "aria-label": `${level > 1 ? "inner set" : "set"} ${tree.name}, ${counted(count, "column")}${side.name === "target" && rowsOf(tree.name).length ? `, rows ${menuOf(side, tree.name)}` : ""}` },
   side.name === "target" && h("span", { class: "port", "aria-hidden": "true" }),
   h("span", { class: "twist", "aria-hidden": "true" }, isOpen ? "▾" : "▸"), h("span", { class: "name" }, tree.name),
   h("button", { class: "badge menu", tabindex: -1, "data-menu": "", title: side.name === "target" ? "From which set its rows come; keys and refs" : "Keys, refs and lookups", "aria-label": `Set ${tree.name}` }, menuOf(side, tree.name)),
@@ -101,7 +101,7 @@ function setRow(side, tree, level, isOpen, count) {
 function menuOf(side, name) {
   if (side.name === "source") return model.outline.lookups.includes(name) ? "looked up" : "⋯";
   const sets = [...new Set(rowsOf(name).map((one) => one.source))];
-  return sets.length ? `from ${sets.join(", ")}` : model.outline.notes ? "from ?" : "⋯";
+  return sets.length ? `from ${sets.join(", ")}` : model.outline.drawing ? "from ?" : "⋯";
 }
 
 function countOf(side, name, isOpen, count) {
