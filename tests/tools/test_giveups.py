@@ -37,6 +37,8 @@ GIVES_UP = [
     "match x { Err(Fault::Memory) => {} _ => return Err(Stop::Memory) }",
     "match x { Err(Memory::Other) => Err(AllocError), y => y }",
     "match x { _ if y == Fault::Memory => Err(AllocError), y => y }",
+    "match x { Err(y) if y.kind() == Fault::Memory || z => Err(AllocError), y => y }",
+    "match x { Err(y) if y.kind() != Fault::Memory => Err(AllocError), y => y }",
     "let Ok(y) = x else { return Err(AllocError); };",
     "let Some(y) = x else { return Err(AllocError) };",
     "if rows > LIMIT { return Err(AllocError); }",
@@ -56,6 +58,21 @@ GIVES_UP = [
     "no_number_left(5000000000)",
     "no_number_left(u64::MAX)",
     "no_number_left(LIMIT as u64 + 1)",
+    "no_number_left(LIMIT.saturating_add(1))",
+    "no_number_left(if true { 5000000000 } else { LIMIT })",
+    "let many = 5000000000; Err(no_number_left(many))",
+    "let many: u64 = u64::from(u32::MAX) + 1; if full { return Err(no_number_left(many + 2)); }",
+    "let few = 4; let many = few << 40; Err(no_number_left(many))",
+    "let (many, _) = (LIMIT, 1); Err(no_number_left(many))",
+    "if let Some(many) = Some(5000000000) { return Err(no_number_left(many)); }",
+    "let Some(many) = LIMIT.checked_add(1) else { return 0; }; Err(no_number_left(many))",
+    "let mut many = 5000000000; Err(no_number_left(many))",
+    "if rows > 5 { let many = Sizes { rows: 5000000000 }; return Err(no_number_left(many.rows)); }",
+    "ExitCode::from(9)",
+    "ExitCode::from(9u8)",
+    "ExitCode::from(NINE)",
+    "ExitCode::from(4 + 5)",
+    "let status = 9; ExitCode::from(status)",
 ]
 
 # What passes an answer on, or gives none.
@@ -66,6 +83,7 @@ GOES_ON = [
     "match x { Err(A::Memory) | Err(B::Memory) => { if y { return Err(AllocError); } } z => z }",
     "match x { Err(ErrorKind::OutOfMemory) => AllocError, _ => unreachable!() }",
     "match x { Err(error) if error.kind() == ErrorKind::OutOfMemory => return Err(error), y => y }",
+    "match x { Err(error) if error.kind() == ErrorKind::OutOfMemory => return Err(AllocError), y => y }",
     "match ending { Ending::Memory => 9, _ => 0 }",
     "x.map_err(|_: AllocError| Stop::Memory)",
     "x.map_err(|AllocError| Stop::Memory)",
@@ -85,6 +103,19 @@ GOES_ON = [
     "let l = 'AllocError' == b'{';",
     "Err(no_number_left(rows.len() as u64))",
     "Err(no_number_left(count))",
+    "let count = rows.len() as u64; Err(no_number_left(count))",
+    "let count = LIMIT + before; Err(no_number_left(count))",
+    "let mut count = 0; for row in rows { count += row.len(); } Err(no_number_left(count))",
+    "let mut count = 0; for row in rows { count = 1 + count; } Err(no_number_left(count))",
+    "let mut count = 0; add(&mut count); Err(no_number_left(count))",
+    "let count = 5; let count = rows; Err(no_number_left(count))",
+    "let Some(count) = before.checked_add(1) else { return 0; }; Err(no_number_left(count))",
+    "if let Some(count) = rows.get(0) { return Err(no_number_left(count)); }",
+    "ExitCode::from(status)",
+    "ExitCode::from(8)",
+    "ExitCode::from(0)",
+    "match x { Err(AllocError) => ExitCode::from(9), Ok(y) => ExitCode::from(y) }",
+    "x.map_or_else(|_: AllocError| ExitCode::from(9), |y| y)",
 ]
 
 # Items, and how many places each has.
@@ -108,6 +139,9 @@ ITEMS = [
     ("#[inline]\nfn f() { Err(AllocError) }", 1),
     ("fn f() { fn g() { AllocError } AllocError }", 2),
     ("fn f(_: AllocError) { fn g() { AllocError } AllocError }", 1),
+    ("fn f(_: AllocError) -> ExitCode { ExitCode::from(9) }", 0),
+    ("fn f() -> ExitCode { ExitCode::from(9) }", 1),
+    ("fn f(many: u64) { no_number_left(many) } fn g() { let many = 5000000000; no_number_left(many) }", 1),
 ]
 
 
