@@ -317,6 +317,22 @@ class SameFile(Trial):
         printed = self.printed("clio-sql", "postgres", "--explain", "--core", "host=nowhere.invalid")
         self.assertIn("CREATE UNLOGGED TABLE", printed)
 
+    def test_another_dialect_has_other_words_alone(self):
+        self.file("mapping.clio", "mapping 2; source { set a { k, x; } } target { set t { k, x, y; key (k); } }\n"
+                                  "only a.k numeric; line trim(a.k) -> t.k; line a.x -> t.x;")
+        words = ["clio-sql", "postgres", "--core", "--explain"]
+        mine, other = (self.printed(*words, *more) for more in ([], ["--dialect", "duckdb"]))
+        self.assertIn("-- It was never run: ", other)
+        self.assertNotRegex(other, "COLLATE|UNLOGGED|ANALYZE|btrim| ~ |[^/]/ [0-9]")
+        for one, another in (" COLLATE \"C\"", ""), (" COLLATE \"default\"", ""), ("UNLOGGED ", ""), ("btrim", "trim"):
+            mine = mine.replace(one, another)
+        kept = [line for line in mine.splitlines() if not line.startswith(("ANALYZE", "--"))]
+        changed = [line.replace(" // ", " / ").replace(" (column1, column2)", "").replace(" (column1)", "")
+                   for line in other.splitlines() if not line.startswith("--")]
+        self.assertEqual([line for line in kept if " ~ " not in line],
+                         [line for line in changed if "regexp_full_match" not in line])
+        self.refused("clio-sql", "postgres", "--dialect", "duckdb", why="--dialect goes with --explain alone")
+
 
 class Told(Trial):
     """What a person who waits sees on a terminal."""

@@ -1,6 +1,6 @@
 """Makes the target of a mapping inside a database: the joins, then what keys and dependencies make equal.
 
-    clio-sql postgres [--core] [--sessions N] [--verbose | --explain] [CONNECTION]
+    clio-sql postgres [--core] [--sessions N] [--verbose | --explain [--dialect NAME]] [CONNECTION]
     clio-sql sqlite [--core] [--verbose | --explain] SOURCE.db TARGET.db
     clio-sql postgres --servers FILE --source [CONNECTION]
     clio-sql postgres --servers FILE [--core] [--verbose] [CONNECTION]
@@ -20,8 +20,9 @@ printed, and the status is 3. This tool isn't proved.
 All that is read of the source is of one state of it, and the target changes at the end in one transaction, or not at
 all; views, indexes and rights on its tables stay. A second run in the same database is refused. Work tables are in a
 schema of the run's own, which is dropped; they take a multiple of the source. --sessions N makes the matches and
-writes by N sessions at once. --verbose prints the statements with their seconds and rows; --explain prints all SQL
-and runs none. On a terminal the steps are shown as they are done, and about how long the others take.
+writes by N sessions at once. --verbose prints the statements with their seconds and rows. --explain prints all SQL and
+runs none; with --dialect duckdb it is that for DuckDB, which was never run. On a terminal the steps are shown as they
+are done, and about how long the others take.
 
 With --servers the rows are on several PostgreSQL servers: each line of FILE says how one is reached, as `host=db1
 dbname=parts user=clio`. The database of CONNECTION runs the same SQL; there each table is a partitioned one whose
@@ -42,7 +43,7 @@ from clio_tools.sql.postgres import Postgres
 from clio_tools.sql.script import shown
 from clio_tools.sql.servers import Servers
 from clio_tools.sql.sqlite import Sqlite
-from clio_tools.sql.words import POSTGRES, SQLITE
+from clio_tools.sql.words import DIALECTS, SQLITE
 from clio_tools.sql.work import Engine, Report, Work, silent
 
 NAME = "clio-sql"
@@ -59,6 +60,7 @@ def asked(words: list[str]) -> argparse.Namespace:
         told = engine.add_mutually_exclusive_group()
         told.add_argument("--verbose", action="store_true", help="print the statements as they are run")
         told.add_argument("--explain", action="store_true", help="print all SQL, and run none")
+    postgres.add_argument("--dialect", choices=sorted(DIALECTS), help="with --explain: the SQL for this engine")
     postgres.add_argument("--servers", metavar="FILE", help="spread the rows over the servers of a file")
     postgres.add_argument("--source", action="store_true", help="with --servers: make the source, empty")
     postgres.add_argument("--sessions", metavar="N", type=int, default=1, help="work by so many sessions at once")
@@ -75,6 +77,8 @@ def check_words(parser: argparse.ArgumentParser, words: argparse.Namespace) -> N
     """Refuses options that don't go together."""
     if words.source and (words.core or not words.servers):
         parser.error("--source asks for --servers, and not for --core")
+    if words.dialect and not words.explain:
+        parser.error("--dialect goes with --explain alone: clio-sql runs in PostgreSQL and SQLite")
     if words.servers and (words.explain or words.sessions > 1):
         parser.error("--servers goes with neither --explain nor --sessions")
     if not 1 <= words.sessions <= 64:
@@ -113,7 +117,7 @@ def rounded(seconds: float) -> str:
 def engine_of(words: argparse.Namespace, teller: Teller) -> Engine:
     """The engine that the words ask for."""
     if words.explain:
-        return Plan(SQLITE if words.engine == "sqlite" else POSTGRES)
+        return Plan(SQLITE if words.engine == "sqlite" else DIALECTS[words.dialect or "postgres"])
     if words.engine == "sqlite":
         return Sqlite(words.source_file, words.target_file, teller.statement)
     if words.servers:

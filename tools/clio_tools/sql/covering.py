@@ -117,9 +117,9 @@ class Covering:
         if len(rows) == 1:
             u, n, c = rows[0]
             return f"SELECT {u} AS u, {n} AS n, {c} AS c FROM {source} WHERE {where}"
-        listed = ", ".join(f"({place})" for place in range(len(rows)))
+        listed = self.words.listed([f"({place})" for place in range(len(rows))], 1)
         u, n, c = (chosen([row[column] for row in rows]) for column in range(3))
-        return f"SELECT {u} AS u, {n} AS n, {c} AS c FROM {source} CROSS JOIN (VALUES {listed}) AS v WHERE {where}"
+        return f"SELECT {u} AS u, {n} AS n, {c} AS c FROM {source} CROSS JOIN {listed} WHERE {where}"
 
     def value(self, rule: int, cell: Cell, place: str) -> tuple[str, str]:
         """What a cell of a rule is at a place, as a null and as a constant."""

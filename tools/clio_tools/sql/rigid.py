@@ -45,7 +45,7 @@ class Rigid:
                 shown.append(f"t.n{place} AS o{place}")
             if place in opens:
                 null, known = f"t.n{place}", sorted(cell.heads & self.known_heads)
-                by_head = "".join(f"WHEN {head_of(null)} = {head} THEN {null} " for head in known)
+                by_head = "".join(f"WHEN {head_of(table.words, null)} = {head} THEN {null} " for head in known)
                 shown.append(f"CASE {by_head}ELSE k{place}.u END AS k{place}" if by_head else f"k{place}.u AS k{place}")
                 joins += f" LEFT JOIN {self.known} AS k{place} ON k{place}.u = t.n{place}"
         query = f"SELECT {', '.join(shown)} FROM ({table.query(distinct=True)}) AS t{joins}"

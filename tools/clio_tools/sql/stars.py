@@ -29,8 +29,8 @@ def followed(table: str, other: str) -> str:
 def part_of(work: Work, table: str, before: set[int], after: set[int], texts: bool) -> Part | None:
     """The part of a table of nulls that went, or None if it has none; the heads that it may have are given."""
     assumed: list[Row] = [(u, n, int(texts)) for u in sorted(before) for n in [*sorted(after), None]]
-    query = (f"SELECT {head_of('u')} AS u, {head_of('n')} AS n, max(CASE WHEN c IS NOT NULL THEN 1 ELSE 0 END)"
-             f" FROM {table} GROUP BY {head_of('u')}, {head_of('n')}")
+    u, n = (head_of(work.words, number) for number in "un")
+    query = f"SELECT {u} AS u, {n} AS n, max(CASE WHEN c IS NOT NULL THEN 1 ELSE 0 END) FROM {table} GROUP BY {u}, {n}"
     found = work.engine.rows(query, assumed)
     if not found:
         return None

@@ -23,9 +23,9 @@ def code(head: int, place: str) -> str:
     return f"({head * SHIFT} + {place})"
 
 
-def head_of(number: str) -> str:
+def head_of(words: Words, number: str) -> str:
     """The head of the null of a number."""
-    return f"{number} / {SHIFT}"
+    return words.divided.format(number, SHIFT)
 
 
 @dataclass

@@ -1,6 +1,6 @@
 """The words in which the SQL of engines differs. All other SQL of the exchange is the same for each."""
 import re
-from dataclasses import dataclass
+from dataclasses import dataclass, replace
 
 from clio_tools.program import Refused
 
@@ -27,6 +27,14 @@ class Words:
     tests: dict[str, str]
     has_indexes: bool  # whether joins need them
     has_statistics: bool  # whether the engine has to be told that a table has its rows
+    divided: str = "{} / {}"  # an integer divided by another one, as an integer
+    names_lists: bool = False  # whether the columns of a list of values get their names from the query alone
+    was_run: bool = True
+
+    def listed(self, rows: list[str], width: int) -> str:
+        """A list of rows of values as the table v, with the columns column1 and so on."""
+        names = ", ".join(f"column{place + 1}" for place in range(width))
+        return f"(VALUES {', '.join(rows)}) AS v" + f" ({names})" * self.names_lists
 
     def text(self, literal: str) -> str:
         """A literal of SQL as a text that is compared by its bytes."""
@@ -77,3 +85,10 @@ SQLITE = Words(
     conversions={"trim": "trim({0}, ' ')", "digits": "clio_digits({0})", "pair": "{0} || ' ' || {1}"},
     tests={"filled": "{0} <> ''", "numeric": "({0} <> '' AND {0} NOT GLOB '*[^0-9]*')"},
     has_indexes=True, has_statistics=False)
+
+# as its manual has them: integers are divided by //, tests match a whole text, texts are compared by their bytes anyway
+DUCKDB = replace(
+    POSTGRES, name="DuckDB", table="TABLE", by_bytes="", by_language="", has_statistics=False, divided="{} // {}",
+    names_lists=True, was_run=False, conversions={**POSTGRES.conversions, "trim": "trim({0}, ' ')"},
+    tests={**POSTGRES.tests, "numeric": "regexp_full_match({0}, '[0123456789]+')"})
+DIALECTS = {"postgres": POSTGRES, "duckdb": DUCKDB}

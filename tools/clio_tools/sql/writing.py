@@ -91,8 +91,8 @@ class Writer:
         source = f"{matches_of(self.script.inserts, null.rule)} AS m"
         variable, value = quoted(f"x{variables[0]}"), escaped("m.c0")
         if len(variables) > 1:
-            listed = ", ".join(f"({column}, 'x{one}')" for column, one in enumerate(variables))
-            source += f" CROSS JOIN (VALUES {listed}) AS v"
+            listed = [f"({column}, 'x{one}')" for column, one in enumerate(variables)]
+            source += f" CROSS JOIN {self.work.words.listed(listed, 2)}"
             whens = " ".join(f"WHEN {column} THEN {escaped(f'm.c{column}')}" for column in range(len(variables)))
             variable, value = "v.column2", f"CASE v.column1 {whens} END"
         columns = [(f"{self.names.head(head)} || m.place", "null"), (variable, "variable"), (value, "value")]
