@@ -2,8 +2,21 @@
 import importlib
 import sys
 
-TOOLS = {name: f"clio-{name}" for name in ("draft", "explain", "given", "ids", "load", "picture", "report", "rules", "sql",
-                                           "tables")}
+NAMES = (
+    "draft",
+    "draw",
+    "explain",
+    "given",
+    "ids",
+    "load",
+    "picture",
+    "report",
+    "rules",
+    "sql",
+    "tables",
+    "why",
+)
+TOOLS = {name: f"clio-{name}" for name in NAMES}
 TOOLS["script"] = "clio-script-to-postgres"
 
 

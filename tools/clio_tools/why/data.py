@@ -163,6 +163,7 @@ class SourceReason:
 
     row: SourceRow
     made: tuple[Made, ...]
+    more: bool
     count: int
     rules: tuple[tuple[int, int], ...]
     misses: tuple[Miss, ...]

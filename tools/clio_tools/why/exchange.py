@@ -51,6 +51,14 @@ class Exchange:
         self.source = Source(mapping, folder)
         self.matches = [RuleMatches(rule, self.source) for rule in mapping.rules]
 
+    @staticmethod
+    def rules_of(folder: pathlib.Path) -> list[str]:
+        """The rules that clio prints for the mapping of a folder."""
+        mapping, printed = mapping_of(read_bytes(folder / "mapping.clio"), folder)
+        if mapping is None:
+            raise Refused("clio refuses mapping.clio: clio-explain show says why")
+        return printed
+
     def stale(self) -> str:
         """What is said if what was written is not what the mapping makes of the files."""
         return f"{self.out.name} is not of these files, {AGAIN}"

@@ -1,10 +1,11 @@
-"""Rows by their texts: read through when they are asked for once, by an index from the second time on."""
+"""Rows by their texts: read through when some columns are asked for a few times, by an index from then on."""
 from __future__ import annotations
 
 from collections.abc import Sequence
 
 Row = tuple[str, ...]
 Columns = tuple[int, ...]
+READ_THROUGH = 12  # times that cost less than an index
 
 
 class Lookup:
@@ -12,20 +13,21 @@ class Lookup:
 
     def __init__(self, rows: list[Row]) -> None:
         self.rows = rows
+        self.asked: dict[Columns, int] = {}
         self.indexes: dict[Columns, dict[Row, list[int]]] = {}
 
     def find(self, columns: Columns, texts: Row) -> Sequence[int]:
         """The numbers of the rows that have these texts in these columns, ascending."""
         if not columns:
             return range(len(self.rows))
-        index = self.indexes.get(columns)
-        if index is None:
-            self.indexes[columns] = {}
+        self.asked[columns] = self.asked.get(columns, 0) + 1
+        if self.asked[columns] <= READ_THROUGH:
             return self.read_through(columns, texts)
-        if not index:
+        if columns not in self.indexes:
+            index = self.indexes[columns] = {}
             for number, row in enumerate(self.rows):
                 index.setdefault(tuple([row[column] for column in columns]), []).append(number)
-        return index.get(texts, ())
+        return self.indexes[columns].get(texts, ())
 
     def read_through(self, columns: Columns, texts: Row) -> list[int]:
         """The same without an index."""

@@ -65,7 +65,7 @@ class RuleMatches:
         for number, derived in enumerate(self.rule.derived):
             stream = converted(stream, derived.conversion, [at[one] for one in derived.arguments])
             at[self.first + number] = width + number
-        return Lookup(sorted(set(picked(stream, [at[variable] for variable in self.exported]))))
+        return Lookup(sorted(dict.fromkeys(picked(stream, [at[variable] for variable in self.exported]))))
 
     def joined(self) -> tuple[Iterator[Row], dict[int, int], int]:
         """The texts of all matches, those of one atom behind those of another; for each variable where its text is; and

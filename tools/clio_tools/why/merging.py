@@ -100,7 +100,7 @@ class Merging:
         wanted = set(map(self.exchange.last, nulls))
         for most in COMPANIONS:
             found = Around(self.exchange, most)
-            ring = nulls + [value for value in map(found.value, nulls) if isinstance(value, tuple)]
+            ring = [value for value in map(found.value, nulls) if isinstance(value, tuple)] + nulls
             while ring and sum(map(len, found.rows)) < MOST_ROWS:
                 for null in dict.fromkeys(ring):
                     found.add_null(null)

@@ -175,9 +175,7 @@ class Missing:
         """A row that has the texts and fails a condition."""
         if not self.source.has_conditions(found.table):
             return None
-        facts = self.source.facts(self.source.root(found.table))
-        return next((fact for fact in facts if fact.table == found.table
-                     and tuple(fact.row[column] for column in found.columns) == found.texts), None)
+        return next(self.source.having(found.table, list(zip(found.columns, found.texts))), None)
 
     def all_misses(self, fact: Fact) -> tuple[tuple[Miss, ...], tuple[Edit, ...]]:
         """What a row missed, and missed besides if it is kept from that; with all changes that keep it."""

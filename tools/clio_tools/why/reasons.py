@@ -60,9 +60,8 @@ class Reasons:
                 raise Refused(f"{name} has no column {column}; it has {', '.join(table.columns)}")
         wanted = [(table.columns.index(column), text) for column, text in texts.items()]
         found: dict[Row, Fact] = {}
-        for fact in self.exchange.source.facts(self.exchange.source.root(number)):
-            if fact.table == number and all(fact.row[column] == text for column, text in wanted):
-                found.setdefault(fact.row, fact)
+        for fact in self.exchange.source.having(number, wanted):
+            found.setdefault(fact.row, fact)
         return list(found.values())
 
     def source_table(self, name: str) -> int:
@@ -90,11 +89,11 @@ class Reasons:
             if (rule, texts) not in met:
                 met.add((rule, texts))
                 rules[rule] += 1
-                if most is None or len(made) < most:
+                if most is None or len(made) <= most:
                     self.add_made(rule, texts, made)
         misses, edits = self.missing.all_misses(fact) if not rules else ((), ())
-        told = tuple(made.values())[:most]
-        return SourceReason(row, told, rules.total(), tuple(sorted(rules.items())), misses, edits)
+        told, by_rule = tuple(made.values())[:most], tuple(sorted(rules.items()))
+        return SourceReason(row, told, len(told) < len(made), rules.total(), by_rule, misses, edits)
 
     def add_made(self, rule: int, texts: Row, made: dict[tuple[int, Row], Made]) -> None:
         """The rows of the target that a match asks for."""

@@ -144,6 +144,19 @@ class Source:
         for table, row, path in walk.facts:
             yield Fact(table, row, Place(0, 0, path))
 
+    def having(self, number: int, wanted: list[tuple[int, str]]) -> Iterator[Fact]:
+        """The rows of a table in its file, whether they pass or not, that have these texts in these columns."""
+        root = self.root(number)
+        if self.tables[root].inner or not wanted:
+            for fact in self.facts(root):
+                if fact.table == number and all(fact.row[column] == text for column, text in wanted):
+                    yield fact
+            return
+        (first, only), *rest = wanted
+        for record, (line, row) in enumerate(self.numbered(root), 1):
+            if row[first] == only and all(row[column] == text for column, text in rest):
+                yield Fact(number, row, Place(line, record, ""))
+
     def shown(self, number: int, row: int) -> SourceRow:
         """A row that passes, by its number."""
         rows = self.rows(number)
