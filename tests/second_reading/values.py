@@ -18,10 +18,14 @@ class Null(NamedTuple):
     place: int
 
 
+Value = Constant | Null
+Row = tuple[Value, ...]
+
+
 class Fact(NamedTuple):
     """A fact is a row of a table."""
     table: int
-    row: tuple
+    row: Row
 
 
 def value_order(value):

@@ -14,7 +14,9 @@ Document = list[dict[str, Any]]
 
 
 class Tree:
-    """A set with those inside it: some are dropped, so that what is inside them is in the outer row; some have a key."""
+    """A set with those inside it: some are dropped, so that what is inside them is in the outer row; some have a
+    key.
+    """
 
     def __init__(self, r: random.Random, depth: int, name: str = "s") -> None:
         self.name, self.r = name, r
@@ -51,7 +53,8 @@ class Tree:
         entries = []
         for _ in range(self.r.randrange(0, width)):
             a = self.r.choice("pqr")
-            entry: dict[str, Any] = {f"a_{self.name}": a, f"b_{self.name}": "of " + a if self.keyed else self.r.choice("uv")}
+            entry: dict[str, Any] = {f"a_{self.name}": a, f"b_{self.name}": "of " + a if self.keyed
+                                     else self.r.choice("uv")}
             entry.update({one.name: one.document(4) for one in self.inner})
             entries.append(entry)
         return entries
@@ -62,7 +65,8 @@ class Tree:
         for number, entry in enumerate(entries):
             a, b = entry[f"a_{self.name}"], entry[f"b_{self.name}"]
             key = (a, b) if self.keyed or not self.kept() else (number,)
-            row = made.setdefault(key, ({f"x_{self.name}": a, f"y_{self.name}": b}, {one.name: [] for one in self.kept()}))
+            row = made.setdefault(key, ({f"x_{self.name}": a, f"y_{self.name}": b},
+                                        {one.name: [] for one in self.kept()}))
             for one in self.kept():
                 row[1][one.name] += self.entries_of(one, entry)
         inner = {one.name: one for one in self.kept()}

@@ -1,15 +1,19 @@
-"""A PostgreSQL server for the tests of a module: its own, in a temporary folder. What is missing for that is said, and the tests are left out."""
+"""A PostgreSQL server for the tests of a module: its own, in a temporary folder. What is missing for that is said, and
+the tests are left out.
+"""
 import contextlib
 import pathlib
 import tempfile
 import unittest
+from collections.abc import Iterator
+from typing import NoReturn
 
 from clio_tools.databases import postgres
 from servers import LeftOut, Postgres
 
 
 @contextlib.contextmanager
-def started():
+def started() -> Iterator[Postgres]:
     """A server, and how it is reached."""
     if postgres.is_missing():
         left_out("psycopg is missing")
@@ -26,6 +30,6 @@ def started():
             server.stop()
 
 
-def left_out(why):
+def left_out(why: object) -> NoReturn:
     print(f"tools: tests on PostgreSQL are left out, since {why}", flush=True)
     raise unittest.SkipTest(str(why))

@@ -11,8 +11,9 @@ import subprocess
 import sys
 import tempfile
 import unittest
+from collections.abc import Iterable, Iterator
 
-from explain_cases import CASES, LARGE_CASES, TOLD
+from explain_cases import CASES, LARGE_CASES, TOLD, Case, Files
 from trial import PROGRAM, TIMES, TOOLS
 
 from clio_tools.csv import ends_open, records
@@ -33,12 +34,12 @@ WHOLE = 9  # of so many cases one is tried by the tool itself, the others by the
 RANDOM = {"rules": 12, "lines": 8, "mixed": 10, "keyed": 10}
 
 
-def run(command):
+def run(command: list[str | os.PathLike[str]]) -> subprocess.CompletedProcess[bytes]:
     """Runs a command in the current folder."""
     return subprocess.run(command, stdin=subprocess.DEVNULL, capture_output=True, check=False)
 
 
-def make(files):
+def make(files: Files) -> None:
     """Writes the files of a case; None is a folder, a text that begins with -> a link, and | a pipe."""
     for name, content in files.items():
         path = pathlib.Path(name)
@@ -54,7 +55,7 @@ def make(files):
             path.write_bytes(content.encode() if isinstance(content, str) else content)
 
 
-def value_text(value):
+def value_text(value: str | tuple[int, int, int]) -> str:
     """A value of the chase as clio writes it."""
     return "?%d.%d.%d" % value if isinstance(value, tuple) else "?" + value if value.startswith("?") else value
 
@@ -62,7 +63,7 @@ def value_text(value):
 class Explain(unittest.TestCase):
     """Runs with the program on the path, each case in a folder of its own."""
 
-    def setUp(self):
+    def setUp(self) -> None:
         kept = tempfile.TemporaryDirectory()
         self.addCleanup(kept.cleanup)
         os.symlink(PROGRAM, os.path.join(kept.name, "clio"))
@@ -71,7 +72,7 @@ class Explain(unittest.TestCase):
         self.addCleanup(os.environ.__setitem__, "PATH", before)
 
     @contextlib.contextmanager
-    def there(self, files):
+    def there(self, files: Files) -> Iterator[None]:
         """A new folder with files is the current one."""
         before = os.getcwd()
         with tempfile.TemporaryDirectory() as name:
@@ -82,7 +83,7 @@ class Explain(unittest.TestCase):
             finally:
                 os.chdir(before)
 
-    def try_said(self, text, wanted):
+    def try_said(self, text: str, wanted: Iterable[str]) -> None:
         """The wanted words are said in this order, and nothing that a terminal would take as a command."""
         place = 0
         for one in wanted:
@@ -90,13 +91,14 @@ class Explain(unittest.TestCase):
             self.assertGreaterEqual(place, 0, f"`{one}` is not said in its place:\n{text[:3000]}")
         self.assertTrue(all(one.isprintable() or one == "\n" for one in text), text[:3000])
 
-    def test_messages(self):
+    def test_messages(self) -> None:
         """Messages of commands and of a version that a program need not know yet."""
         for case in TOLD:
             with self.subTest(case.name), self.there(case.files):
-                self.try_said("".join(line + "\n" for line in explained(case.status, case.message, list(case.words))), case.wanted)
+                self.try_said("".join(line + "\n" for line in explained(case.status, case.message, list(case.words))),
+                              case.wanted)
 
-    def test_dependencies(self):
+    def test_dependencies(self) -> None:
         """The target of random mappings with dependencies is that of another chase, and so are clashes."""
         counts = {True: 0, False: 0}
         for number in range(60 * TIMES):
@@ -114,11 +116,13 @@ class Explain(unittest.TestCase):
                 self.assertEqual(bool(clashes), other.clash)
                 counts[other.clash] += 1
                 if not clashes:
-                    made = {(table, tuple(value_text(chase.value(value)) for value in row)) for table, listed in enumerate(rows) for row in listed}
-                    self.assertEqual(made, {(fact.table, tuple(map(wanted_text, fact.row))) for fact in other.instance()})
+                    made = {(table, tuple(value_text(chase.value(value)) for value in row)) for table,
+                            listed in enumerate(rows) for row in listed}
+                    self.assertEqual(made, {(fact.table, tuple(map(wanted_text, fact.row)))
+                                            for fact in other.instance()})
         self.assertGreaterEqual(min(counts.values()), 3, counts)
 
-    def try_case(self, case, is_whole):
+    def try_case(self, case: Case, is_whole: bool) -> None:
         """The wanted words in this order; if asked for, by the tool itself."""
         with self.subTest(case.name), self.there(case.files):
             own = run(["clio", *case.words])
@@ -130,8 +134,10 @@ class Explain(unittest.TestCase):
                 text = "".join(line + "\n" for line in explained(own.returncode, message, list(case.words)))
             self.try_said(text, case.wanted)
 
-    def passed_on(self, case, own):
-        """What clio-explain says after clio's message, in which control characters are escapes; all else must be as clio has it."""
+    def passed_on(self, case: Case, own: subprocess.CompletedProcess[bytes]) -> str:
+        """What clio-explain says after clio's message, in which control characters are escapes; all else must be as
+        clio has it.
+        """
         told = run([sys.executable, TOOLS / "clio-explain", *case.words])
         self.assertEqual((own.returncode, own.stdout), (told.returncode, told.stdout))
         message = own.stderr.decode("utf-8", "surrogateescape").removesuffix("\n")
@@ -141,26 +147,30 @@ class Explain(unittest.TestCase):
         self.assertNotIn("no more can be said", text)
         return text.replace("\n  ", "\n").removeprefix("  ")
 
-    def test_cases(self):
+    def test_cases(self) -> None:
         for place, case in enumerate(CASES):
             self.try_case(case, place % WHOLE == 0)
 
-    def test_output_is_closed(self):
+    def test_output_is_closed(self) -> None:
         with self.there(CASES[-1].files):
-            told = subprocess.run(f"'{sys.executable}' '{TOOLS / 'clio-explain'}' exchange >&-", shell=True, capture_output=True, check=False)
+            told = subprocess.run(f"'{sys.executable}' '{TOOLS / 'clio-explain'}' exchange >&-", shell=True,
+                                  capture_output=True, check=False)
             self.assertEqual(told.returncode, 8)
-            self.assertIn(b"all 5 files are written; what is printed could not be\n  standard output is closed", told.stderr)
+            self.assertIn(b"all 5 files are written; what is printed could not be\n  standard output is closed",
+                          told.stderr)
 
-    def test_failure_to_explain(self):
+    def test_failure_to_explain(self) -> None:
         """A mapping of a later version is passed on; what can't be read isn't explained."""
         with self.there({"mapping.clio": "mapping 2;"}):
-            self.assertEqual(run([sys.executable, TOOLS / "clio-explain", "show"]).returncode, run(["clio", "show"]).returncode)
+            self.assertEqual(run([sys.executable, TOOLS / "clio-explain", "show"]).returncode,
+                             run(["clio", "show"]).returncode)
 
-    def test_open_quotes(self):
-        for content, wanted in [(b'x\n"a', True), (b'x\n"a"', False), (b'x\n"a""', True), (b'x\na"', False), (b'x\n"a\n\n', True), (b"", False), (b'"a"b"', False)]:
+    def test_open_quotes(self) -> None:
+        for content, wanted in [(b'x\n"a', True), (b'x\n"a"', False), (b'x\n"a""', True), (b'x\na"', False),
+                                (b'x\n"a\n\n', True), (b"", False), (b'"a"b"', False)]:
             self.assertEqual(ends_open(content), wanted, content)
 
-    def test_random(self):
+    def test_random(self) -> None:
         counts = {0: 0, 3: 0}
         for kind, most in RANDOM.items():
             for number in range(most * TIMES):
@@ -169,7 +179,7 @@ class Explain(unittest.TestCase):
                     self.try_random(counts)
         self.assertGreaterEqual(min(counts.values()), 3, counts)
 
-    def test_verdicts(self):
+    def test_verdicts(self) -> None:
         """Something is said of each random target with a row less or a value changed exactly if it is no solution."""
         counts = {True: 0, False: 0}
         for kind in "keyed", "lines", "rules":
@@ -186,9 +196,10 @@ class Explain(unittest.TestCase):
                         counts[broken] += 1
         self.assertGreaterEqual(min(counts.values()), 3, counts)
 
-    def damage(self, chance):
+    def damage(self, chance: random.Random) -> None:
         """Takes a row out of a given table, or changes one of its values."""
-        path = chance.choice([path for path in sorted(pathlib.Path("given").glob("*.csv")) if path.name not in ("nulls.csv", "fold.csv")])
+        path = chance.choice([path for path in sorted(pathlib.Path("given").glob("*.csv"))
+                              if path.name not in ("nulls.csv", "fold.csv")])
         header, *rows = [fields for _, fields in records(path.read_bytes())]
         if rows:
             row = rows.pop(chance.randrange(len(rows)))
@@ -198,7 +209,7 @@ class Explain(unittest.TestCase):
         with open(path, "w", newline="", encoding="utf-8") as file:
             csv.writer(file, lineterminator="\n").writerows([header, *rows])
 
-    def try_random(self, counts):
+    def try_random(self, counts: dict[int, int]) -> None:
         """A clash exactly if clio ends with 3, and else the same target."""
         ended = run(["clio", "exchange"])
         if ended.returncode not in counts:
@@ -212,17 +223,19 @@ class Explain(unittest.TestCase):
         else:
             self.try_target(found)
 
-    def try_clash(self, found, message):
+    def try_clash(self, found: Clashes, message: str) -> None:
         """The clash that clio tells is the first that is listed."""
         told, first = FORM.fullmatch(message), found.ordered(message)[0]
+        assert told is not None
         self.assertEqual(found.names(first), (told[1], told[2].split(", "), told[5]))
         self.assertLessEqual({plain(told[3]), plain(told[4])}, set(first.texts))
         self.assertTrue(all(line.isprintable() for line in found.lines(message)))
 
-    def try_target(self, found):
+    def try_target(self, found: Clashes) -> None:
         """The rows after the chase are those that clio wrote."""
         for number, table in enumerate(found.mapping.target):
-            made = {tuple(value_text(found.chase.value(value)) for value in row) for row in found.canonical.rows[number]}
+            made = {tuple(value_text(found.chase.value(value)) for value in row)
+                    for row in found.canonical.rows[number]}
             written = list(records(pathlib.Path("out", table.name + ".csv").read_bytes()))[1:]
             self.assertEqual(made, {tuple(fields) for _, fields in written})
 
@@ -230,12 +243,12 @@ class Explain(unittest.TestCase):
 class Large(Explain):
     """The cases at clio's limits."""
 
-    def test_cases(self):
+    def test_cases(self) -> None:
         for case in LARGE_CASES:
             self.try_case(case, True)
 
 
-def load_tests(loader, _tests, _pattern):
+def load_tests(loader: unittest.TestLoader, _tests: object, _pattern: object) -> unittest.TestSuite:
     """The cases at the limits are left out unless they are asked for."""
     return loader.loadTestsFromTestCase(Explain)
 

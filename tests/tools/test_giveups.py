@@ -178,7 +178,7 @@ class GiveUps(unittest.TestCase):
 
     def test_reasons(self) -> None:
         """A place without a reason and a reason without a place are wrong; one reason serves one place."""
-        self.program.REASONS = {"a.rt f": "so", "b.rt g": "so"}
+        vars(self.program)["REASONS"] = {"a.rt f": "so", "b.rt g": "so"}
         place = self.program.Place
         first, again = place("a.rt", "f", 1), place("a.rt", "f", 2)
         second, other = place("b.rt", "g", 1), place("a.rt", "h", 1)

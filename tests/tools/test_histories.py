@@ -7,7 +7,7 @@ import random
 import subprocess
 import tempfile
 import unittest
-from typing import NamedTuple
+from typing import NamedTuple, TypeVar
 
 from trial import PROGRAM, TIMES
 
@@ -29,7 +29,7 @@ rule orders(n, m, t, s, w, l) -> sale(n, c, p), customer(c, m, t, f), place(p, s
 rule item(n, s) -> sold(n, s);
 """
 LOADS, HISTORIES = 10, 8
-Values = tuple[object, ...]  # those of the keys of a thing
+Values = TypeVar("Values", bound=tuple[object, ...])  # those of the keys of a thing
 
 
 class Order(NamedTuple):

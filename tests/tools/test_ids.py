@@ -9,6 +9,7 @@ import subprocess
 import sys
 import tempfile
 import unittest
+from collections.abc import Iterator, Mapping
 
 from trial import PROGRAM, TIMES, TOOLS, Trial
 
@@ -36,29 +37,30 @@ target { set unit { uname, boss; key (uname); set staff { sid, sname; key (sname
 rule emp(n, d) -> unit(u, d, b), staff(u, s, n);
 """
 HOSTILE = ["", "?", "?0.0.0", "\\.", "\0", "a\nb", "a\r\nb", '"', "a,b", "é", "\ufeff", "'", "17", "{", "x" * 5_000_000]
+Term = tuple[str, int, object, tuple[str, ...]]  # a rule, how many are equal before it, a variable, and texts
 KINDS = {"rules": 6, "mixed": 4, "keyed": 14}
 
 
 class Ids(Trial):
     """Runs of the tool as a user does them."""
 
-    def exchange(self, mapping, **tables):
+    def exchange(self, mapping: str, **tables: list[list[str]]) -> None:
         """One run of clio."""
         self.file("mapping.clio", mapping)
         for name, rows in tables.items():
             self.file(f"{name}.csv", "".join(map(record_text, rows)))
         self.assertEqual(self.clio("exchange")[0], 0)
 
-    def sales(self, *rows):
+    def sales(self, *rows: list[str]) -> None:
         self.exchange(SHOP, sale=[["id", "buyer", "note"], *rows])
 
-    def table(self, name, columns):
+    def table(self, name: str, columns: list[str]) -> list[list[str]]:
         return list(read_table(self.folder / "out" / f"{name}.csv", columns))
 
-    def customers(self):
+    def customers(self) -> dict[str, str]:
         return {row[1]: row[0] for row in self.table("customer", ["cid", "cname", "phone"])}
 
-    def test_grown(self):
+    def test_grown(self) -> None:
         self.sales(["2", "ann", ""], ["3", "bob", ""])
         self.assertEqual(self.printed("clio-ids", "ids.db"), "known 0\nnew 4\nchanged 0\n")
         before = self.customers()
@@ -70,7 +72,7 @@ class Ids(Trial):
         self.assertEqual({row[0]: row[2] for row in self.table("orders", ["oid", "note", "cid"])}["1"], before["bob"])
         self.assertEqual(len(set(after.values())), 3)
 
-    def test_another_thing(self):
+    def test_another_thing(self) -> None:
         """A row that comes to refer to another customer gives it no number that was one's."""
         self.sales(["1", "ann", ""])
         self.printed("clio-ids", "ids.db")
@@ -82,8 +84,8 @@ class Ids(Trial):
         self.printed("clio-ids", "ids.db")
         self.assertEqual(self.customers()["ann"], before["ann"])
 
-    def test_order_of_another(self):
-        """Order 2 goes from Bob to Cyd and back: by a rule it is known too, but the key of the customer alone decides."""
+    def test_order_of_another(self) -> None:
+        """Order 2 goes from Bob to Cyd and back: by a rule it is known too, but the customer's key alone decides."""
         mapping = """mapping 1;
             source { set orders { id, email; } set item { n, s; } }
             target {
@@ -105,7 +107,7 @@ class Ids(Trial):
                                  'known 2\nnew 0\nchanged 1\nsale.c of (n) ["2"]: 3 is now 2\n',
                                  'known 3\nnew 0\nchanged 1\nsale.c of (n) ["2"]: 2 is now 3\n'])
 
-    def test_delivery_elsewhere(self):
+    def test_delivery_elsewhere(self) -> None:
         """A delivery whose address changes has another address; the number of the old one stays its own."""
         mapping = """mapping 1;
             source { set sent { id, street, town; } set parcel { id, what; } }
@@ -116,25 +118,28 @@ class Ids(Trial):
             }
             rule sent(i, s, t) -> delivery(i, p), place(p, s, t);
             rule parcel(i, w) -> content(i, w);"""
-        for town, place in ("Paris", "1"), ("Portland", "2"), ("Paris", "1"):
-            self.exchange(mapping, sent=[["id", "street", "town"], ["7", "Main", town]], parcel=[["id", "what"], ["7", "tea"]])
+        for town, wanted in ("Paris", "1"), ("Portland", "2"), ("Paris", "1"):
+            self.exchange(mapping, sent=[["id", "street", "town"], ["7", "Main", town]],
+                          parcel=[["id", "what"], ["7", "tea"]])
             self.printed("clio-ids", "ids.db")
-            self.assertEqual(self.table("place", ["pid", "street", "town"]), [[place, "Main", town]])
-            self.assertEqual(self.table("delivery", ["id", "place"]), [["7", place]])
+            self.assertEqual(self.table("place", ["pid", "street", "town"]), [[wanted, "Main", town]])
+            self.assertEqual(self.table("delivery", ["id", "place"]), [["7", wanted]])
 
-    def test_two_keys(self):
+    def test_two_keys(self) -> None:
         """The first key that is known decides; a value that another thing had last is not one's own any more."""
-        mapping = "mapping 1; source { set a { x, y; } } target { set t { id, x, y; key (id); key (x); key (y); } } rule a(x, y) -> t(i, x, y);"
-        steps = [([("a", "1")], {("a", "1"): "1"}), ([("b", "1")], {("b", "1"): "1"}), ([("b", "1"), ("a", "2")], {("b", "1"): "1", ("a", "2"): "2"}),
+        mapping = ("mapping 1; source { set a { x, y; } } target { set t { id, x, y; key (id); key (x); key (y); } }"
+                   "rule a(x, y) -> t(i, x, y);")
+        steps = [([("a", "1")], {("a", "1"): "1"}), ([("b", "1")], {("b", "1"): "1"}),
+                 ([("b", "1"), ("a", "2")], {("b", "1"): "1", ("a", "2"): "2"}),
                  ([("a", "1"), ("b", "2")], {("a", "1"): "2", ("b", "2"): "1"})]
         for rows, wanted in steps:
-            self.exchange(mapping, a=[["x", "y"], *map(list, rows)])
+            self.exchange(mapping, a=[["x", "y"], *([x, y] for x, y in rows)])
             said = self.printed("clio-ids", "ids.db")
             self.assertEqual({(x, y): number for number, x, y in self.table("t", ["id", "x", "y"])}, wanted)
         self.assertIn('changed 2\n', said)
         self.assertIn('t.id of (y) ["1"]: 1 is now 2\n', said)
 
-    def test_key_becomes_known(self):
+    def test_key_becomes_known(self) -> None:
         """What was known by a rule alone keeps its number when its key becomes known."""
         mapping = """mapping 1; source { set a { n; } set b { n, x; } }
             target { set t { n, id; key (n); ref (id) -> u (id); } set u { id, x; key (id); key (x); } }
@@ -148,17 +153,22 @@ class Ids(Trial):
         self.assertEqual({n: after[n] for n in before}, before)
         self.assertEqual(len(set(after.values())), 3)
 
-    def test_damaged(self):
+    def test_damaged(self) -> None:
         """A crosswalk that something else has changed is refused, with what is wrong, and nothing is changed."""
         self.sales(["1", "ann", ""], ["2", "bob", ""])
         self.printed("clio-ids", "ids.db")
         good = (self.folder / "ids.db").read_bytes()
         for change, why in [("UPDATE next SET number = 9223372036854775807", "the next number is 9223372036854775807"),
-                            ("UPDATE next SET number = 'x'", "the next number is 'x'"), ("DELETE FROM next", "the table next has 0 rows"),
-                            ("UPDATE name SET number = 'x'", "has the number 'x'"), ("UPDATE name SET number = 1", "which are of two things"),
-                            ("UPDATE name SET number = 77", "has the number 77"), ("UPDATE name SET text = CAST(text AS BLOB)", "is not as clio-ids writes it"),
-                            ("UPDATE name SET kind = 99", "is not as clio-ids writes it"), ("DROP TABLE term", "other tables"),
-                            ("UPDATE numbered SET is_numbered = 'x'", "is marked 'x'"), ("UPDATE written SET digest = 'x'", "the digest of"),
+                            ("UPDATE next SET number = 'x'", "the next number is 'x'"),
+                            ("DELETE FROM next", "the table next has 0 rows"),
+                            ("UPDATE name SET number = 'x'", "has the number 'x'"),
+                            ("UPDATE name SET number = 1", "which are of two things"),
+                            ("UPDATE name SET number = 77", "has the number 77"),
+                            ("UPDATE name SET text = CAST(text AS BLOB)", "is not as clio-ids writes it"),
+                            ("UPDATE name SET kind = 99", "is not as clio-ids writes it"),
+                            ("DROP TABLE term", "other tables"),
+                            ("UPDATE numbered SET is_numbered = 'x'", "is marked 'x'"),
+                            ("UPDATE written SET digest = 'x'", "the digest of"),
                             ("UPDATE kind SET key_columns = '['", "is not as clio-ids writes it")]:
             with self.subTest(change):
                 self.file("ids.db", good)
@@ -172,8 +182,8 @@ class Ids(Trial):
         self.file("ids.db", good[:len(good) // 2])
         self.refused("clio-ids", "ids.db", why="ids.db")
 
-    def test_links(self):
-        """A link or a pipe in the place of the crosswalk is refused, one in the place of a file is never written through."""
+    def test_links(self) -> None:
+        """A link or a pipe in the place of the crosswalk is refused, one in that of a file is never written through."""
         self.sales(["1", "ann", ""])
         victim = self.file("victim", "mine")
         os.symlink("victim", self.folder / "ids.db")
@@ -195,7 +205,7 @@ class Ids(Trial):
         os.symlink("other", self.folder / "out")
         self.refused("clio-ids", "ids.db", why="out is a link to other")
 
-    def test_second_run(self):
+    def test_second_run(self) -> None:
         """While one run works on a crosswalk, a second one is refused."""
         self.sales(["1", "ann", ""])
         self.printed("clio-ids", "ids.db")
@@ -205,18 +215,20 @@ class Ids(Trial):
         self.refused("clio-ids", "ids.db", why="database is locked: another run works on it")
         base.close()
 
-    def test_other_mapping(self):
+    def test_other_mapping(self) -> None:
         """A rule before the others changes the names of all nulls, and no number."""
         self.sales(["1", "ann", ""], ["2", "bob", ""])
         self.printed("clio-ids", "ids.db")
         before = self.customers()
-        self.exchange(SHOP.replace("source { ", "source { set a { x; } ").replace("target {", "target { set b { x, y; }") + "line a.x -> b.x;", a=[["x"], ["1"]])
+        other = SHOP.replace("source { ", "source { set a { x; } ").replace("target {", "target { set b { x, y; }")
+        self.exchange(other + "line a.x -> b.x;", a=[["x"], ["1"]])
         self.printed("clio-ids", "ids.db")
         self.assertEqual(self.customers(), before)
 
-    def test_equal_rules(self):
+    def test_equal_rules(self) -> None:
         """Two rules with one text make two things."""
-        mapping = "mapping 1; source { set a { x; } } target { set t { id, x; key (id); } } " + "rule a(x) where y = trim(x) -> t(i, y);" * 2
+        mapping = ("mapping 1; source { set a { x; } } target { set t { id, x; key (id); } }"
+                   + "rule a(x) where y = trim(x) -> t(i, y);" * 2)
         self.exchange(mapping, a=[["x"], ["p"]])
         self.printed("clio-ids", "ids.db")
         before = self.table("t", ["id", "x"])
@@ -225,7 +237,7 @@ class Ids(Trial):
         self.assertEqual([row for row in self.table("t", ["id", "x"]) if row[1] == "p"], before)
         self.assertEqual(len({row[0] for row in self.table("t", ["id", "x"])}), 4)
 
-    def test_twice(self):
+    def test_twice(self) -> None:
         self.sales(["1", "ann", ""])
         self.printed("clio-ids", "ids.db")
         written = {path.name: path.read_bytes() for path in (self.folder / "out").iterdir()}
@@ -234,7 +246,7 @@ class Ids(Trial):
         self.assertIn("numbers already", said)
         self.assertEqual({path.name: path.read_bytes() for path in (self.folder / "out").iterdir()}, written)
 
-    def test_hostile_texts(self):
+    def test_hostile_texts(self) -> None:
         rows = [[str(place), text, text] for place, text in enumerate(HOSTILE)]
         self.sales(*rows)
         self.printed("clio-ids", "ids.db")
@@ -245,7 +257,7 @@ class Ids(Trial):
         after = self.customers()
         self.assertEqual({name: after[name] for name in before}, before)
 
-    def test_nested(self):
+    def test_nested(self) -> None:
         self.exchange(NESTED, emp=[["name", "dept"], ["ann", "toys"], ["bob", "toys"], ["ann", "books"]])
         self.assertEqual(self.clio("exchange", "--nested")[0], 0)
         self.printed("clio-ids", "ids.db", "--nested")
@@ -257,14 +269,15 @@ class Ids(Trial):
         self.assertEqual({one["uname"]: one["boss"] for one in document}, bosses)
         self.assertTrue(all(boss.startswith("?999.0.") for boss in bosses.values()))
 
-    def test_columns(self):
+    def test_columns(self) -> None:
         self.sales(["1", "ann", ""])
-        self.printed("clio-ids", "ids.db", "--keep", "customer.cid", "--keep", "orders.cid", "--number", "customer.phone")
+        self.printed("clio-ids", "ids.db", "--keep", "customer.cid", "--keep", "orders.cid", "--number",
+                     "customer.phone")
         self.assertRegex(self.customers()["ann"], r"\?999\.0\.\d+")
         self.assertRegex(self.table("customer", ["cid", "cname", "phone"])[0][2], r"\d+")
         self.refused("clio-ids", "ids.db", "--keep", "customer.nothing", why="no column customer.nothing")
 
-    def test_refusals(self):
+    def test_refusals(self) -> None:
         self.file("mapping.clio", SHOP)
         self.refused("clio-ids", "ids.db", why="out/nulls.csv is missing")
         self.assertFalse((self.folder / "ids.db").exists())
@@ -281,43 +294,48 @@ class Ids(Trial):
         self.file("out/orders.csv", fresh)
         self.refused("clio-ids", "ids.db", why="out/orders.csv is not of the run")
 
-    def test_no_room(self):
+    def test_no_room(self) -> None:
         """A file that can't grow: nothing is changed, and no crosswalk is left that has nothing."""
         self.sales(["1", "ann", ""])
         before = {path.name: path.read_bytes() for path in (self.folder / "out").iterdir()}
         for size in 1, 20:
             with self.subTest(size):
-                done = subprocess.run(["bash", "-c", f'ulimit -f {size}; exec "$0" -B "$1" ids.db', sys.executable, TOOLS / "clio-ids"], cwd=self.folder, capture_output=True, check=False)
+                done = subprocess.run(["bash", "-c", f'ulimit -f {size}; exec "$0" -B "$1" ids.db', sys.executable,
+                                       TOOLS / "clio-ids"], cwd=self.folder, capture_output=True, check=False)
                 self.assertEqual((done.returncode, done.stdout), (2, b""))
                 self.assertEqual(done.stderr, b"clio-ids: ids.db: disk I/O error\n")
                 self.assertEqual({path.name: path.read_bytes() for path in (self.folder / "out").iterdir()}, before)
                 self.assertFalse((self.folder / "ids.db").exists())
 
-    def test_files_of_two_runs(self):
-        for name, content, why in [("customer.csv", "cid,cname,phone\n", "in no table"), ("customer.csv", "cid,cname,phone\n?x,ann,\n", "none that clio writes"),
-                                   ("rules.txt", "", "0 rules"), ("orders.csv", "oid,note\n", "the header is"), ("orders.csv", "oid,note,cid\n1\n", "record 1 has 1")]:
+    def test_files_of_two_runs(self) -> None:
+        for name, content, why in [("customer.csv", "cid,cname,phone\n", "in no table"),
+                                   ("customer.csv", "cid,cname,phone\n?x,ann,\n", "none that clio writes"),
+                                   ("rules.txt", "", "0 rules"), ("orders.csv", "oid,note\n", "the header is"),
+                                   ("orders.csv", "oid,note,cid\n1\n", "record 1 has 1")]:
             self.sales(["1", "ann", ""])
             self.file(f"out/{name}", content)
             if name == "customer.csv" and "?x" not in content:
                 self.file("out/orders.csv", "oid,note,cid\n")
             self.refused("clio-ids", "ids.db", why=why)
 
-    def test_numerals(self):
+    def test_numerals(self) -> None:
         """A number is given that is no text of the column; a text that is the number of a thing is refused."""
-        mapping = "mapping 1; source { set a { x; } set b { x; } } target { set t { id, x; key (id); key (x); } } rule a(x) -> t(i, x); rule b(i) -> t(i, y);"
+        mapping = ("mapping 1; source { set a { x; } set b { x; } } target { set t { id, x; key (id); key (x); } }"
+                   "rule a(x) -> t(i, x); rule b(i) -> t(i, y);")
         self.exchange(mapping, a=[["x"], ["p"]], b=[["x"], ["1"]])
         self.printed("clio-ids", "ids.db", "--number", "t.id")
         given = {row[1]: row[0] for row in self.table("t", ["id", "x"])}["p"]
         self.assertIn(given, ["2", "3"])
         self.exchange(mapping, a=[["x"], ["p"]], b=[["x"], [given]])
-        self.refused("clio-ids", "ids.db", why=f"has the text {given} in column id, and {given} is the number of another thing")
+        self.refused("clio-ids", "ids.db", why=f"has the text {given} in column id, and {given} is the number of "
+                                               f"another thing")
 
 
 class Grown(unittest.TestCase):
     """Random sources, of which a part comes first: what the rules make for one match is the same thing in both runs."""
 
     @contextlib.contextmanager
-    def there(self):
+    def there(self) -> Iterator[None]:
         before = os.getcwd()
         with tempfile.TemporaryDirectory() as name:
             os.chdir(name)
@@ -326,7 +344,7 @@ class Grown(unittest.TestCase):
             finally:
                 os.chdir(before)
 
-    def test_random(self):
+    def test_random(self) -> None:
         explain_program.program, kept = lambda: PROGRAM, explain_program.program
         self.addCleanup(setattr, explain_program, "program", kept)
         compared = 0
@@ -337,7 +355,7 @@ class Grown(unittest.TestCase):
                     compared += self.grow(choice, random_case(choice, kind).files)
         self.assertGreater(compared, 50)
 
-    def grow(self, choice, files):
+    def grow(self, choice: random.Random, files: Mapping[str, str]) -> int:
         """Runs on a part of the rows and then on all; answers how many nulls were compared."""
         for name, content in files.items():
             pathlib.Path(name).write_text(part_of(choice, name, content), encoding="utf-8", newline="")
@@ -347,7 +365,7 @@ class Grown(unittest.TestCase):
         second = self.run_once()
         if first is None or second is None:
             return 0
-        things = {}
+        things: dict[int, set[int]] = {}
         for term, thing in second.items():
             things.setdefault(thing, set()).update({first[term]} if term in first else ())
         for thing, before in things.items():
@@ -357,30 +375,34 @@ class Grown(unittest.TestCase):
                 self.assertNotIn(thing, first.values())
         return sum(map(bool, things.values()))
 
-    def run_once(self):
-        """The number of each null that the rules make, by its rule, variable and texts; nothing if clio refuses the case."""
+    def run_once(self) -> dict[Term, int] | None:
+        """The number of each null that the rules make, by its rule, variable and texts; nothing if clio refuses the
+        case.
+        """
         if subprocess.run([PROGRAM, "exchange"], capture_output=True, check=False).returncode:
             return None
         content = pathlib.Path("mapping.clio").read_bytes()
         mapping, printed = explain_program.mapping_of(content)
+        assert mapping is not None
         found = Clashes(mapping, printed)
         crosswalk = Crosswalk("ids.db")
         naming = number(read_sets(content.decode())["target"], crosswalk, {}, False)
         crosswalk.close()
         numbers = naming.by_name()
         self.assertEqual(len(set(numbers.values())), len(numbers))
-        things = {}
+        things: dict[Term, int] = {}
         for rule, matches in enumerate(found.matches):
             variables = {cell.content for cell in mapping.rules[rule].conclusion_cells() if cell.kind == "existential"}
             for place, texts in enumerate(matches.places()):
                 for variable in variables:
                     value = found.chase.value((rule, variable, place))
                     if isinstance(value, tuple):
-                        things[printed[rule], printed[:rule].count(printed[rule]), variable, texts] = numbers["?%d.%d.%d" % value]
+                        things[printed[rule], printed[:rule].count(printed[rule]), variable,
+                               texts] = numbers["?%d.%d.%d" % value]
         return things
 
 
-def part_of(choice, name, content):
+def part_of(choice: random.Random, name: str, content: str) -> str:
     """Some of the rows of a table, or of the objects of a document."""
     if name.endswith(".json"):
         return json.dumps([one for one in json.loads(content.removeprefix("\ufeff")) if choice.random() < .6])

@@ -15,12 +15,14 @@ DIAMOND = """mapping 1;
 source {
   set customer { id, name, city; key (id); }
   set address { id, owner, street; key (id); ref (owner) -> customer (id); }
-  set orders { id, cust, ship, bill; ref (cust) -> customer (id); ref (ship) -> address (id); ref (bill) -> address (id); }
+  set orders { id, cust, ship, bill; ref (cust) -> customer (id); ref (ship) -> address (id);
+    ref (bill) -> address (id); }
 }
 target {
   set person { pid, name, city; key (pid); }
   set place { lid, owner, street; key (lid); ref (owner) -> person (pid); }
-  set sale { no, buyer, ship, bill; key (no); ref (buyer) -> person (pid); ref (ship) -> place (lid); ref (bill) -> place (lid); }
+  set sale { no, buyer, ship, bill; key (no); ref (buyer) -> person (pid); ref (ship) -> place (lid);
+    ref (bill) -> place (lid); }
 }
 line customer.name -> person.name;
 line customer.city -> person.city;
@@ -109,7 +111,8 @@ class Messages(Trial):
         """A limit on lines names the refs and lines that make it, in some lines."""
         names = [f"c{number}" for number in range(20)]
         wide = DIAMOND.replace("id, name, city; key (id)", f"id, name, city, {', '.join(names)}; key (id)").replace(
-            "pid, name, city", f"pid, name, city, {', '.join(names)}") + "".join(f"line customer.{name} -> person.{name};\n" for name in names)
+            "pid, name, city", f"pid, name, city, {', '.join(names)}") + "".join(f"line customer.{name} -> "
+                                                                                 f"person.{name};\n" for name in names)
         said = self.of_mapping(wide, 6)
         self.assertTrue(said.startswith("limit: ways 64\n"))
         self.assertIn("most are from orders", said)
@@ -121,7 +124,8 @@ class Messages(Trial):
     def test_many_variants(self) -> None:
         refs = "".join(f"ref (c{number}) -> b (x) optional; " for number in range(9))
         columns = ", ".join(f"c{number}" for number in range(9))
-        said = self.of_mapping(f"mapping 2; source {{ set a {{ {columns}; {refs} }} set b {{ x; }} }} target {{ set t {{ y; }} }} line a.c0 -> t.y;", 6)
+        said = self.of_mapping(f"mapping 2; source {{ set a {{ {columns}; {refs} }} set b {{ x; }} }} target "
+                               f"{{ set t {{ y; }} }} line a.c0 -> t.y;", 6)
         self.assertTrue(said.startswith("limit: variants 256\n"))
         self.assertIn("from a: 512", said)
         self.assertIn("without ref (c0) -> b (x) in a: 257", said)
@@ -129,7 +133,8 @@ class Messages(Trial):
 
     def test_many_cells(self) -> None:
         """Sets that nothing joins make a row for each pair."""
-        self.file("mapping.clio", "mapping 1; source { set a { x; } set b { y; } set c { z; } } target { set t { x, y; } }"
+        self.file("mapping.clio", "mapping 1; source { set a { x; } set b { y; } set c { z; } } target { set t { x, y; "
+                                  "} }"
                   + "rule c(z) -> t(z, z);" * 60 + "rule a(x), b(y) -> t(x, y);")
         self.file("c.csv", "z\n1\n")
         for name, column in ("a", "x"), ("b", "y"):
@@ -141,16 +146,19 @@ class Messages(Trial):
         self.assertLessEqual(len(said.splitlines()), 41)
 
     def test_clash_of_a_literal(self) -> None:
-        self.file("mapping.clio", """mapping 1; source { set a { x; } set b { x, k; } } target { set t { x, k; key (x); } }
+        self.file("mapping.clio", """mapping 1; source { set a { x; } set b { x, k; } }
+            target { set t { x, k; key (x); } }
             line a.x -> t.x; line b.x -> t.x; line b.k -> t.k; line "old" -> t.k;""")
         self.file("a.csv", "x\n1\n")
         self.file("b.csv", "x,k\n1,new\n")
-        self.assertIn('cause: "old" is a text of the mapping: its line fills t.k in each rule that no other line fills there, so in rules 0:',
+        self.assertIn('cause: "old" is a text of the mapping: its line fills t.k in each rule that no other line fills '
+                      'there, so in rules 0:',
                       self.said("exchange", status=3))
 
     def test_clash_of_two_refs(self) -> None:
         self.file("mapping.clio", """mapping 1;
-            source { set customer { id, name; key (id); } set address { id, owner; key (id); ref (owner) -> customer (id); }
+            source { set customer { id, name; key (id); }
+            set address { id, owner; key (id); ref (owner) -> customer (id); }
               set orders { id, cust, ship; ref (cust) -> customer (id); ref (ship) -> address (id); } }
             target { set sale { no, who; key (no); } }
             line orders.id -> sale.no; line customer.name -> sale.who;""")
@@ -163,14 +171,18 @@ class Messages(Trial):
             self.assertIn(ref, said)
 
     def test_warnings(self) -> None:
-        """A text that no rule has, and a ref to no key, are told; a comment switches off one warning, or one of one set."""
-        text = """mapping 1; source { set a { x, y; } } target { set t { x, u; ref (u) -> u (z); } set u { z, v; } set w { v; } }
+        """A text that no rule has, and a ref to no key, are told; a comment switches off one warning, or one of one
+        set.
+        """
+        text = """mapping 1; source { set a { x, y; } }
+            target { set t { x, u; ref (u) -> u (z); } set u { z, v; } set w { v; } }
             line a.x -> t.x; line "old" -> t.x; line a.y -> u.v;"""
         said = self.of_mapping(text, 0)
         self.assertIn('no rule has the text of line "old" -> t.x', said)
         self.assertIn("ref (u) -> u (z) of t leads to columns that are no key of u", said)
         self.assertIn("no rule makes rows of w [unfilled w]", said)
-        for off, gone, stays in [("literal", "[literal t]", "[no-key t]"), ("no-key t", "[no-key t]", "[literal t]"), ("unfilled w", "[unfilled w]", "[no-key t]")]:
+        for off, gone, stays in [("literal", "[literal t]", "[no-key t]"), ("no-key t", "[no-key t]", "[literal t]"),
+                                 ("unfilled w", "[unfilled w]", "[no-key t]")]:
             said = self.of_mapping(f"// clio-explain: off {off}\n{text}", 0)
             self.assertNotIn(gone, said)
             self.assertIn(stays, said)

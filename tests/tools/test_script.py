@@ -12,18 +12,21 @@ rule b(x) -> t(x, k, "?");
 
 
 class Script(Trial):
-    def test_steps(self):
+    def test_steps(self) -> None:
         self.file("mapping.clio", MAPPING)
         script = "".join(line for line in self.clio("show")[1].splitlines(True) if not line.startswith("rule "))
         sql = self.printed("clio-script-to-postgres", text=script)
         self.assertIn('row_number() OVER (ORDER BY c0 COLLATE "C", c1 COLLATE "C") - 1 AS place', sql)
-        self.assertIn("INSERT INTO target.\"t\" SELECT DISTINCT written(m.c0), written(m.c1), written('it''s') FROM m0 AS m;", sql)
-        self.assertIn("INSERT INTO target.\"t\" (SELECT written(m.c0), SKOLEM(1, 0, m.place), written('?') FROM m1 AS m EXCEPT SELECT * FROM target.\"t\");", sql)
+        self.assertIn("INSERT INTO target.\"t\" SELECT DISTINCT written(m.c0), written(m.c1), written('it''s') FROM m0 "
+                      "AS m;", sql)
+        self.assertIn("INSERT INTO target.\"t\" (SELECT written(m.c0), SKOLEM(1, 0, m.place), written('?') FROM m1 AS "
+                      "m EXCEPT SELECT * FROM target.\"t\");", sql)
 
-    def test_refusals(self):
+    def test_refusals(self) -> None:
         long = "n" * 64
         cut = f'CREATE TABLE target."{long}" ("x" TEXT);'
-        for script, why in [("DROP TABLE x;", "no step of a script"), (cut, "after 63 letters"), ("rule a(x0) -> t(x0);", "no step")]:
+        for script, why in [("DROP TABLE x;", "no step of a script"), (cut, "after 63 letters"),
+                            ("rule a(x0) -> t(x0);", "no step")]:
             self.refused("clio-script-to-postgres", text=script + "\n", why=why)
         self.refused("clio-script-to-postgres", "script.sql", why="usage")
 

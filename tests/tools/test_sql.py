@@ -1,5 +1,6 @@
 """clio-sql: what it makes in SQLite, against another reading of the rules, keys and dependencies. dev/check has
-PostgreSQL."""
+PostgreSQL.
+"""
 import contextlib
 import copy
 import os
@@ -9,8 +10,9 @@ import sqlite3
 import subprocess
 import sys
 import unittest
+from typing import Any
 
-from trial import PROGRAM, TOOLS, Trial
+from trial import MODES, PROGRAM, TOOLS, Trial
 
 from chase import Chase
 from clio_tools.csv import read_table, write_table
@@ -23,36 +25,36 @@ from clio_tools.sql.words import POSTGRES, SQLITE
 from covers import Covers, CoveredPlaces
 from files import moved, nulls_text
 from homomorphisms import core_of, homomorphism, is_core
-from matches import canonical, facts_of, places_of
-from random_cases import random_case
+from matches import Place, canonical, facts_of, places_of
+from random_cases import Case, random_case
 from refusals import Limit, TooLong
 from schema import preorder
 from spelling import mapping_tokens
-from values import Fact, ascending, image, nulls_of, read_value
+from rules import Rule
+from values import Fact, Null, Value, ascending, image, nulls_of, read_value
 
 RANDOM = {"rules": 2, "lines": 2, "mixed": 2, "keyed": 4, "dependent": 6}
 STAND_IN = """#!/bin/sh
-# Shows the mapping without its dependencies, which change neither rules nor script: for a program that doesn't read
-# them
+# Shows the mapping without its dependencies, which change neither rules nor script
 cd "%s/plain" && exec "%s" "$@"
 """
 
 
 class Random(Trial):
-    def setUp(self):
+    def setUp(self) -> None:
         super().setUp()
         (self.folder / "bin").mkdir()
         path = os.environ["PATH"]
         self.addCleanup(os.environ.__setitem__, "PATH", path)
         os.environ["PATH"] = f"{self.folder / 'bin'}:{path}"
 
-    def test_random_mappings(self):
+    def test_random_mappings(self) -> None:
         for kind, count in RANDOM.items():
             for number in range(count):
                 with self.subTest(kind=kind, number=number):
                     self.try_case(random_case(random.Random(f"sql {kind} {number}"), kind))
 
-    def try_case(self, case):
+    def try_case(self, case: Case) -> None:
         """Both modes of one case."""
         try:
             rules, _ = case.mapping.rule_list()
@@ -68,7 +70,7 @@ class Random(Trial):
         folded = {null: covered.fold(null) for null in nulls}
         self.compare(case, (rules, places), facts_of(covered.uncovered()), folded, ["--core"])
 
-    def put_program(self, case):
+    def put_program(self, case: Case) -> None:
         """Puts the program on the path, or a stand-in if it doesn't read the case's version of the text."""
         path = self.folder / "bin" / "clio"
         path.unlink(missing_ok=True)
@@ -83,7 +85,7 @@ class Random(Trial):
         self.file("bin/clio", STAND_IN % (self.folder, PROGRAM))
         path.chmod(0o755)
 
-    def load(self, case):
+    def load(self, case: Case) -> None:
         """The source as a database."""
         (self.folder / "source.db").unlink(missing_ok=True)
         with sqlite3.connect(self.folder / "source.db") as base:
@@ -94,7 +96,8 @@ class Random(Trial):
                 base.executemany(f'INSERT INTO "{table.name}" VALUES ({marks})', case.instance.get(number, ()))
         base.close()
 
-    def compare(self, case, made, facts, covered, words):
+    def compare(self, case: Case, made: tuple[list[Rule], list[list[Place]]], facts: set[Fact],
+                covered: dict[Null, Value], words: list[str]) -> None:
         """The target and its nulls, as the chase makes them of the facts, and the fold: first by covers, then by the
         chase."""
         chase = Chase(facts, case.mapping.target)
@@ -121,7 +124,8 @@ class Random(Trial):
             self.assertIn("a core", said)
             self.assertTrue(is_core(found))
 
-    def compare_core(self, target, found, fold, folded):
+    def compare_core(self, target: set[Fact], found: set[Fact], fold: dict[Value, Value],
+                     folded: dict[Value, Value]) -> None:
         """What was reduced is a core of the target, and the fold sends what the rules make onto it."""
         self.assertEqual(len(found), len(core_of(target)))
         self.assertLessEqual(found, target)
@@ -134,7 +138,7 @@ class Random(Trial):
 class Wide(Trial):
     """Rules whose atoms can go to each other in more ways than are tried."""
 
-    def wide(self, *names):
+    def wide(self, *names: str) -> None:
         """A mapping with a rule for each of some sets, and a source with a row in each."""
         columns = "abcdefg"
         sets = "".join(f"set {name} {{ i, {', '.join(columns)}; }} " for name in names)
@@ -152,12 +156,12 @@ class Wide(Trial):
         self.addCleanup(os.environ.__setitem__, "PATH", path)
         os.environ["PATH"] = f"{self.folder}:{path}"
 
-    def test_one_rule(self):
+    def test_one_rule(self) -> None:
         self.wide("p")
         printed = self.printed("clio-sql", "sqlite", "--core", "source.db", "target.db")
         self.assertEqual(printed, "phone 7\ncard 1\nnulls 8\nfold 0\n")
 
-    def test_two_rules(self):
+    def test_two_rules(self) -> None:
         self.wide("p", "q")
         printed = self.printed("clio-sql", "sqlite", "--core", "source.db", "target.db")
         self.assertEqual(printed, "phone 7\ncard 1\nnulls 8\nfold 1\n")
@@ -175,7 +179,7 @@ rule b(k, y) -> t(k, o, y);
 class Texts(Trial):
     """Columns with and without nulls, with texts that look like the marks of the work tables: the same as by clio."""
 
-    def setUp(self):
+    def setUp(self) -> None:
         super().setUp()
         os.symlink(PROGRAM, self.folder / "clio")
         path = os.environ["PATH"]
@@ -183,7 +187,7 @@ class Texts(Trial):
         os.environ["PATH"] = f"{self.folder}:{path}"
         self.file("mapping.clio", TWO)
 
-    def load(self, **tables):
+    def load(self, **tables: list[list[str]]) -> None:
         """The source as files and as a database."""
         (self.folder / "source.db").unlink(missing_ok=True)
         with contextlib.closing(sqlite3.connect(self.folder / "source.db")) as base, base:
@@ -192,7 +196,7 @@ class Texts(Trial):
                 base.execute(f"CREATE TABLE {name} (k TEXT, {'x' if name == 'a' else 'y'} TEXT)")
                 base.executemany(f"INSERT INTO {name} VALUES (?, ?)", rows)
 
-    def test_equal_to_clio(self):
+    def test_equal_to_clio(self) -> None:
         self.load(a=[[text, text] for text in MARKED],
                   b=[[text, MARKED[-place]] for place, text in enumerate(MARKED[3:])])
         self.assertEqual(self.clio("exchange")[0], 0)
@@ -204,7 +208,7 @@ class Texts(Trial):
                 wanted = sorted(map(tuple, read_table(self.folder / "out" / f"{name}.csv", list(columns))))
                 self.assertEqual(sorted(base.execute(f"SELECT * FROM {name}")), wanted)
 
-    def test_clash(self):
+    def test_clash(self) -> None:
         self.file("mapping.clio", TWO.replace("t(k, o, y)", "t(k, y, y)"))
         for one, other in ("?", "c"), ("n", "a,\"b"), ("", "?0"):
             self.load(a=[["k", one]], b=[["k", other]])
@@ -214,14 +218,14 @@ class Texts(Trial):
 
 
 class Words(Trial):
-    def test_what_is_no_call_is_refused(self):
+    def test_what_is_no_call_is_refused(self) -> None:
         self.refused("clio-sql", why="required: engine")
         self.refused("clio-sql", "sqlite", "source.db", why="required: TARGET.db")
         self.refused("clio-sql", "sqlite", "source.db", "target.db", why="source.db is not there")
         self.refused("clio-sql", "postgres", "--source", why="--source asks for --servers")
         self.refused("clio-sql", "postgres", "--servers", "servers.txt", why="servers.txt")
 
-    def test_no_server_is_told_by_a_password(self):
+    def test_no_server_is_told_by_a_password(self) -> None:
         for line in ("host", "host='a", "host=a b", "HOST=a", "host=a passwd=TOPSECRET", "password=TOP SECRET host=a",
                      "postgresql://clio:TOPSECRET@a/b?passwd=x"):
             self.file("servers.txt", f"host=a\n\n{line}\n")
@@ -232,7 +236,7 @@ class Words(Trial):
                 self.assertIn("line 3 of the servers", said)
             self.assertNotIn("SECRET", said)
 
-    def test_a_server_is_told_by_how_it_is_reached(self):
+    def test_a_server_is_told_by_how_it_is_reached(self) -> None:
         try:
             one, other, again = reached(["host=a dbname=x user=u", "host=b dbname=x user=u",
                                          " dbname = y  host='a' user=v password='it\\'s \\\\ old' "])
@@ -245,20 +249,20 @@ class Words(Trial):
         self.assertRaises(Refused, reached, ["host=a", "host=a user=b"])
         self.assertRaises(Refused, reached, [" "])
 
-    def test_an_unknown_conversion_or_test_is_an_error(self):
+    def test_an_unknown_conversion_or_test_is_an_error(self) -> None:
         for words in POSTGRES, SQLITE:
             self.assertEqual(words.exported('"digits"(a0."x")'), words.conversions["digits"].format('a0."x"'))
             self.assertRaises(Refused, words.exported, '"upper"(a0."x")')
             self.assertRaises(Refused, words.passes, '"x"', "even")
 
-    def test_no_step_is_skipped(self):
+    def test_no_step_is_skipped(self) -> None:
         self.assertRaises(ValueError, Script().add, "DROP TABLE m0;")
 
 
 class SameFile(Trial):
     """The source is never written to."""
 
-    def setUp(self):
+    def setUp(self) -> None:
         super().setUp()
         os.symlink(PROGRAM, self.folder / "clio")
         path = os.environ["PATH"]
@@ -267,25 +271,25 @@ class SameFile(Trial):
         self.file("mapping.clio", "mapping 1; source { set t { x, y; } } target { set t { p, n; } } line t.x -> t.p;")
         self.base("s.db", "CREATE TABLE t (x TEXT, y TEXT)", "INSERT INTO t VALUES ('1', 'kept')")
 
-    def base(self, name, *statements):
+    def base(self, name: str, *statements: str) -> list[Any]:
         """Runs statements on a file; answers the rows of the last."""
         with contextlib.closing(sqlite3.connect(self.folder / name)) as base, base:
             return [base.execute(statement).fetchall() for statement in statements][-1]
 
-    def test_source_and_target_are_two_files(self):
+    def test_source_and_target_are_two_files(self) -> None:
         os.link(self.folder / "s.db", self.folder / "hard.db")
         os.symlink("s.db", self.folder / "soft.db")
         for target in "s.db", "./s.db", "hard.db", "soft.db":
             self.refused("clio-sql", "sqlite", "s.db", target, why="are one file")
         self.assertEqual(self.base("s.db", "SELECT * FROM t"), [("1", "kept")])
 
-    def test_a_table_of_others_is_refused(self):
+    def test_a_table_of_others_is_refused(self) -> None:
         self.base("t.db", "CREATE TABLE t (mine TEXT)", "INSERT INTO t VALUES ('kept')")
         why = "has a table t with other columns, which clio-sql didn't make"
         self.refused("clio-sql", "sqlite", "s.db", "t.db", why=why)
         self.assertEqual(self.base("t.db", "SELECT * FROM t"), [("kept",)])
 
-    def test_a_view_goes_on(self):
+    def test_a_view_goes_on(self) -> None:
         self.printed("clio-sql", "sqlite", "s.db", "t.db")
         self.base("t.db", "CREATE VIEW v AS SELECT p FROM t", "CREATE INDEX i ON t (p)")
         self.base("s.db", "UPDATE t SET x = 'new'")
@@ -293,7 +297,7 @@ class SameFile(Trial):
         self.assertEqual(self.base("t.db", "SELECT * FROM v"), [("new",)])
         self.assertEqual(self.base("t.db", "SELECT name FROM sqlite_schema WHERE type = 'index'"), [("i",)])
 
-    def test_a_clash_leaves_the_target(self):
+    def test_a_clash_leaves_the_target(self) -> None:
         self.printed("clio-sql", "sqlite", "s.db", "t.db")
         self.file("mapping.clio", "mapping 1; source { set t { x, y; } } target { set t { p, q; key (p); } }"
                                   "line t.x -> t.p; line t.y -> t.q;")
@@ -303,14 +307,14 @@ class SameFile(Trial):
         self.assertEqual(self.tool("clio-sql", "sqlite", "s.db", "none.db")[0], 3)
         self.assertFalse((self.folder / "none.db").exists())
 
-    def test_a_target_in_use_is_left(self):
+    def test_a_target_in_use_is_left(self) -> None:
         self.printed("clio-sql", "sqlite", "s.db", "t.db")
         with contextlib.closing(sqlite3.connect(self.folder / "t.db")) as base:
             base.execute("BEGIN IMMEDIATE")
             self.refused("clio-sql", "sqlite", "s.db", "t.db", why="database is locked")
 
-    def test_sql_is_printed_and_not_run(self):
-        for core in [], ["--core"]:
+    def test_sql_is_printed_and_not_run(self) -> None:
+        for core in MODES:
             printed = self.printed("clio-sql", "sqlite", *core, "--explain", "s.db", "none.db")
             self.assertIn('CREATE TABLE target."t" AS SELECT', printed)
         self.assertFalse((self.folder / "none.db").exists())

@@ -6,9 +6,11 @@ import subprocess
 import sys
 import time
 import unittest
+from typing import IO
 
 from server import started
-from trial import PROGRAM, TOOLS, Trial
+from servers import Postgres
+from trial import MODES, PROGRAM, TOOLS, Trial
 
 from clio_tools.csv import read_table
 from clio_tools.databases.postgres import Session
@@ -20,28 +22,34 @@ rule a(k, x) -> t(k, x, p), u(x, q);
 rule b(k, y) -> t(k, o, y);
 """
 KEPT = contextlib.ExitStack()
-SERVER = None
+SERVERS: list[Postgres] = []  # the one that is started
+SESSIONS: list[list[str]] = [[], ["--sessions", "2"]]
 
 
-def setUpModule():
-    global SERVER
-    SERVER = KEPT.enter_context(started())
+def setUpModule() -> None:
+    SERVERS.append(KEPT.enter_context(started()))
 
 
-def tearDownModule():
+def tearDownModule() -> None:
     KEPT.close()
+
+
+def said_by(run: subprocess.Popen[str]) -> IO[str]:
+    """The standard error of a run."""
+    assert run.stderr is not None
+    return run.stderr
 
 
 class Server(Trial):
     """A database with two source tables."""
 
-    def setUp(self):
+    def setUp(self) -> None:
         super().setUp()
         os.symlink(PROGRAM, self.folder / "clio")
         path = os.environ["PATH"]
         self.addCleanup(os.environ.__setitem__, "PATH", path)
         os.environ["PATH"] = f"{self.folder}:{path}"
-        self.place = SERVER.place[0]
+        self.place = SERVERS[0].place[0]
         self.session = Session(self.place, client_min_messages="error")
         self.addCleanup(self.session.close)
         self.session.run("DROP SCHEMA IF EXISTS source, target, clio CASCADE; DROP VIEW IF EXISTS v;"
@@ -50,30 +58,30 @@ class Server(Trial):
                          "CREATE TABLE source.b AS SELECT * FROM (VALUES ('1', 'uno'), ('3', '')) AS v(k, y)")
         self.file("mapping.clio", TWO)
 
-    def made(self, *words):
+    def made(self, *words: str) -> tuple[str, str]:
         """What clio-sql prints, and says, if it ends with 0."""
         status, out, said = self.tool("clio-sql", "postgres", *words, self.place)
         self.assertEqual(status, 0, said)
         return out, said
 
-    def target(self):
+    def target(self) -> list[list[tuple[str | None, ...]]]:
         """The rows of all tables."""
         return [sorted(self.session.rows(f"SELECT * FROM target.{name}")) for name in ("t", "u", "nulls", "fold")]
 
-    def schemas(self):
+    def schemas(self) -> list[str | None]:
         """The schemas that runs leave behind."""
         return self.session.column("SELECT nspname FROM pg_namespace WHERE nspname LIKE 'clio%'")
 
-    def begun(self, *words):
+    def begun(self, *words: str) -> subprocess.Popen[str]:
         """A run that was begun in the background."""
-        command = [sys.executable, "-B", TOOLS / "clio-sql", "postgres", *words, self.place]
+        command = [sys.executable, "-B", str(TOOLS / "clio-sql"), "postgres", *words, self.place]
         run = subprocess.Popen(command, cwd=self.folder, stdout=subprocess.DEVNULL, stderr=subprocess.PIPE, text=True,
                                preexec_fn=lambda: signal.signal(signal.SIGINT, signal.SIG_DFL))  # as on a terminal
-        self.addCleanup(run.stderr.close)
+        self.addCleanup(said_by(run).close)
         self.addCleanup(run.kill)
         return run
 
-    def wait_until(self, query):
+    def wait_until(self, query: str) -> None:
         """Waits until a query answers true."""
         end = time.monotonic() + 120
         while self.session.value(query) != "t":
@@ -84,20 +92,21 @@ class Server(Trial):
 class Whole(Server):
     """The target changes whole, or not at all."""
 
-    def test_equal_to_clio(self):
-        for words in [], ["--sessions", "3"], ["--core"], ["--core", "--sessions", "2"]:
+    def test_equal_to_clio(self) -> None:
+        for words in (mode + sessions for mode in MODES for sessions in SESSIONS):
             for name, columns in ("a", "kx"), ("b", "ky"):
                 rows = "".join(f"{k},{x}\n" for k, x in self.session.rows(f"SELECT * FROM source.{name}"))
                 self.file(f"{name}.csv", f"{','.join(columns)}\n{rows}")
             self.made(*words)
             self.assertEqual(self.clio("exchange", *(word for word in words if word == "--core"))[0], 0)
-            columns = {"t": "kxy", "u": "xz", "nulls": ["null", "variable", "value"], "fold": ["null", "value"]}
-            written = [sorted(map(tuple, read_table(self.folder / "out" / f"{name}.csv", list(listed))))
-                       for name, listed in columns.items()]
+            listed = {"t": ["k", "x", "y"], "u": ["x", "z"], "nulls": ["null", "variable", "value"],
+                      "fold": ["null", "value"]}
+            written = [sorted(tuple(row) for row in read_table(self.folder / "out" / f"{name}.csv", named))
+                       for name, named in listed.items()]
             self.assertEqual(self.target(), written)
             self.assertEqual(self.schemas(), [])
 
-    def test_a_schema_of_others_stays(self):
+    def test_a_schema_of_others_stays(self) -> None:
         self.session.run("CREATE SCHEMA clio; CREATE TABLE clio.mine AS SELECT 1 AS one;"
                          "CREATE VIEW public.v AS SELECT * FROM clio.mine")
         self.made()
@@ -105,12 +114,12 @@ class Whole(Server):
         self.assertEqual(self.session.value("SELECT one FROM public.v"), "1")
         self.session.run("DROP SCHEMA clio CASCADE")
 
-    def test_what_hangs_on_the_target_goes_on(self):
+    def test_what_hangs_on_the_target_goes_on(self) -> None:
         self.made()
         self.session.run("CREATE VIEW v AS SELECT x FROM target.u; CREATE INDEX i ON target.u (x);"
                          "CREATE TABLE target.mine AS SELECT 1 AS one;"
                          "UPDATE source.a SET x = 'new' WHERE k = '1'")
-        for words in [], ["--sessions", "2"]:
+        for words in SESSIONS:
             self.made(*words)
             self.assertEqual(sorted(self.session.column("SELECT * FROM v")), ["??two", "new"])
             self.assertEqual(self.session.value("SELECT count(*) FROM pg_indexes WHERE schemaname = 'target'"), "1")
@@ -121,19 +130,19 @@ class Whole(Server):
         self.refused("clio-sql", "postgres", self.place, why=why)
         self.assertEqual(self.target(), before)
 
-    def test_a_table_of_others_is_refused(self):
+    def test_a_table_of_others_is_refused(self) -> None:
         self.session.run("CREATE SCHEMA target; CREATE TABLE target.u AS SELECT 'mine' AS mine")
         self.refused("clio-sql", "postgres", self.place, why="target.u is there")
         self.assertEqual(self.session.rows("SELECT * FROM target.u"), [("mine",)])
         self.assertEqual(self.session.column("SELECT tablename FROM pg_tables WHERE schemaname = 'target'"), ["u"])
 
-    def test_a_clash_leaves_the_target(self):
+    def test_a_clash_leaves_the_target(self) -> None:
         self.made()
         before = self.target()
         for one, other in ("a\n-- clio-sql: done --\nb", "c"), ("\x1b[31m", "d"), ("a", 'b"\\'):
             self.session.run("DELETE FROM source.a WHERE k = '1'")
             self.session.run("INSERT INTO source.a VALUES ('1', %s), ('1', %s)", one, other)
-            for words in [], ["--sessions", "2"]:
+            for words in SESSIONS:
                 status, out, said = self.tool("clio-sql", "postgres", *words, self.place)
                 self.assertEqual((status, out), (3, ""), said)
                 self.assertIn("clash: table t, key (k): ", said)
@@ -144,7 +153,7 @@ class Whole(Server):
 class Interrupted(Server):
     """Runs that end before their end."""
 
-    def setUp(self):
+    def setUp(self) -> None:
         super().setUp()
         self.made()
         self.before = self.target()
@@ -153,29 +162,29 @@ class Interrupted(Server):
         self.addCleanup(self.reader.close)
         self.reader.run("BEGIN; LOCK TABLE target.nulls IN ACCESS SHARE MODE")  # the run waits for it at its end
 
-    def waits(self):
+    def waits(self) -> None:
         """Waits until the run waits for the reader."""
         self.wait_until("SELECT EXISTS (SELECT 1 FROM pg_locks WHERE NOT granted)")
 
-    def left(self):
+    def left(self) -> None:
         """Nothing of the run is left."""
         self.reader.run("ROLLBACK")
         self.wait_until("SELECT NOT EXISTS (SELECT 1 FROM pg_locks WHERE locktype = 'advisory')")
         self.assertEqual(self.target(), self.before)
 
-    def test_interrupted(self):
-        ways = ([], signal.SIGINT, 130), (["--sessions", "2"], signal.SIGINT, 130), ([], signal.SIGTERM, 143)
-        for words, number, status in ways:
-            run = self.begun(*words)
+    def test_interrupted(self) -> None:
+        ways = (0, signal.SIGINT, 130), (1, signal.SIGINT, 130), (0, signal.SIGTERM, 143)
+        for sessions, number, status in ways:
+            run = self.begun(*SESSIONS[sessions])
             self.waits()
             run.send_signal(number)
-            self.assertEqual(run.wait(60), status, run.stderr.read())
+            self.assertEqual(run.wait(60), status, said_by(run).read())
             self.left()
             self.assertEqual(self.schemas(), [])
             self.reader.run("BEGIN; LOCK TABLE target.nulls IN ACCESS SHARE MODE")
 
-    def test_killed(self):
-        for words in [], ["--sessions", "2"]:
+    def test_killed(self) -> None:
+        for words in SESSIONS:
             run = self.begun(*words)
             self.waits()
             run.kill()
@@ -187,7 +196,7 @@ class Interrupted(Server):
         self.assertEqual(self.schemas(), [])
         self.assertEqual(len(self.target()[1]), 3002)
 
-    def test_a_second_run_is_refused(self):
+    def test_a_second_run_is_refused(self) -> None:
         run = self.begun()
         self.waits()
         self.refused("clio-sql", "postgres", self.place, why="another run of clio-sql is under way in this database")
@@ -195,39 +204,39 @@ class Interrupted(Server):
         self.assertEqual(run.wait(60), 0)
         self.assertEqual(len(self.target()[1]), 3002)
 
-    def test_a_lost_connection(self):
+    def test_a_lost_connection(self) -> None:
         run = self.begun()
         self.waits()
         self.session.run("SELECT pg_terminate_backend(pid) FROM pg_locks WHERE NOT granted")
         self.assertEqual(run.wait(60), 2)
-        said = run.stderr.read()
+        said = said_by(run).read()
         self.assertIn("; the target is as it was", said)
         self.assertTrue("the server was stopped" in said or "the connection is lost" in said, said)
         self.left()
 
-    def test_one_state_of_the_source(self):
+    def test_one_state_of_the_source(self) -> None:
         self.reader.run("ROLLBACK")
-        for words in [], ["--sessions", "2"]:
+        for words in SESSIONS:
             self.session.run("DELETE FROM source.a WHERE k LIKE 'more%'")
             self.reader.run("BEGIN; LOCK TABLE source.b IN ACCESS EXCLUSIVE MODE;"
                             "INSERT INTO source.b SELECT 'more' || i, 'y' FROM generate_series(1, 50) AS i")
             run = self.begun(*words)  # which reads a, and waits for b
             self.waits()
             self.reader.run("INSERT INTO source.a SELECT 'more' || i, 'z' FROM generate_series(1, 50) AS i; COMMIT")
-            self.assertEqual(run.wait(60), 0, run.stderr.read())
+            self.assertEqual(run.wait(60), 0, said_by(run).read())
             self.assertEqual(self.session.value("SELECT count(*) FROM target.t WHERE k LIKE 'more%'"), "0")
             self.session.run("DELETE FROM source.b WHERE k LIKE 'more%'")
 
 
 class Secrets(Server):
-    def test_no_password_is_told(self):
+    def test_no_password_is_told(self) -> None:
         words = f"{self.place} password=TOPSECRET dbname=none", "host=x passwd=TOPSECRET", "password=TOP SECRET"
         for connection in words:
             status, out, said = self.tool("clio-sql", "postgres", connection)
             self.assertEqual((status, out), (2, ""))
             self.assertNotIn("SECRET", said)
 
-    def test_no_password_is_logged(self):
+    def test_no_password_is_logged(self) -> None:
         for statement in "ALTER SYSTEM SET log_statement = 'all'", "SELECT pg_reload_conf()":
             self.session.run(statement)
         for statement in "SELECT pg_reload_conf()", "ALTER SYSTEM RESET log_statement":  # the last is done first
@@ -240,7 +249,7 @@ class Secrets(Server):
         self.session.run("INSERT INTO source.a VALUES ('1', 'one')")
         out, _ = self.made("--servers", "servers.txt")
         self.assertEqual(out, "t 1\nu 1\nnulls 4\nfold 0\n")
-        said = (SERVER.base / "log").read_text(encoding="utf-8")
+        said = (SERVERS[0].base / "log").read_text(encoding="utf-8")
         self.assertIn("CREATE FOREIGN TABLE", said)
         self.assertNotIn("TOPSECRET", said)
         self.session.run("DROP SCHEMA source, target CASCADE; DROP EXTENSION postgres_fdw CASCADE;"
@@ -250,7 +259,7 @@ class Secrets(Server):
 
 
 class Disk(Server):
-    def test_a_fault_of_the_server_leaves_the_target(self):
+    def test_a_fault_of_the_server_leaves_the_target(self) -> None:
         self.made()
         before = self.target()
         self.session.run("ALTER DATABASE postgres SET temp_file_limit = 0")  # as a full disk, for what is sorted
