@@ -26,7 +26,9 @@ class Script(Trial):
         long = "n" * 64
         cut = f'CREATE TABLE target."{long}" ("x" TEXT);'
         for script, why in [("DROP TABLE x;", "no step of a script"), (cut, "after 63 letters"),
-                            ("rule a(x0) -> t(x0);", "no step")]:
+                            ("rule a(x0) -> t(x0);", "no step"),
+                            ('CREATE TABLE m0 AS SELECT DISTINCT a0."x" AS c0 FROM source."a" AS a0; '
+                             "COPY x FROM PROGRAM 'id'; --;", "no step")]:
             self.refused("clio-script-to-postgres", text=script + "\n", why=why)
         self.refused("clio-script-to-postgres", "script.sql", why="usage")
 

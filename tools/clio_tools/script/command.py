@@ -30,6 +30,8 @@ MATCH = re.compile(r"CREATE TABLE (m[0-9]+) AS (SELECT DISTINCT (.*?) FROM sourc
 KEEP = re.compile(r"CREATE TABLE (k[0-9]+) AS SELECT \* FROM m[0-9]+ AS m WHERE .*;")
 CREATE = re.compile(r"CREATE TABLE target\.\"[^\"]+\" \(.*\);")
 INSERT = re.compile(r"INSERT INTO (target\.\"[^\"]+\") SELECT (.*) FROM ([mk][0-9]+) AS m;")
+QUOTED = re.compile(r"'(?:[^']|'')*'|\"[^\"]+\"")
+UNQUOTED = re.compile(r"[A-Za-z0-9_.,=<>()* ]*;")  # what is in no quotes of a step: one statement, and no comment
 
 HEAD = r"""\set ON_ERROR_STOP on
 SET client_encoding = 'UTF8';
@@ -82,6 +84,8 @@ def insert_rows(target: str, outs: str, table: str, filled: set[str]) -> str:
 
 def turned(step: str, filled: set[str]) -> str:
     """What PostgreSQL runs for a step, when rows were already put into the tables `filled`."""
+    if not UNQUOTED.fullmatch(QUOTED.sub("", step)):
+        raise Refused(f"this is no step of a script that clio writes: {step[:200]}")
     if found := MATCH.fullmatch(step):
         return f"{match_rows(found[1], found[2], found[3])}\nANALYZE {found.group(1)};"
     if found := INSERT.fullmatch(step):
