@@ -145,6 +145,24 @@ class Messages(Trial):
         self.assertIn("nothing joins b to the others", said)
         self.assertLessEqual(len(said.splitlines()), 41)
 
+    def test_deep_sets(self) -> None:
+        """A text of any depth is refused with some lines, and no traceback."""
+        deep = "set s { x; " * 20_000 + "}" * 20_000
+        said = self.of_mapping(f"mapping 1; source {{ {deep} }} target {{ }}", 6)
+        self.assertTrue(said.startswith("limit: depth 16\n"), said[:300])
+        self.assertNotIn("Traceback", said)
+        self.assertLessEqual(len(said.splitlines()), 41)
+
+    def test_rows_that_a_key_joins(self) -> None:
+        """Rows of a rule that leaves a key open make no rows of their own if another key joins them, which is told."""
+        self.file("mapping.clio", """mapping 1; source { set sale { id, buyer; } }
+            target { set customer { cid, name; key (cid); %s } set orders { no, cid; ref (cid) -> customer (cid); } }
+            line sale.id -> orders.no; line sale.buyer -> customer.name;""" % "key (name);")
+        self.file("sale.csv", "id,buyer\n1,ann\n2,ann\n3,bob\n")
+        self.assertNotIn("a row of its own", self.said("exchange"))
+        self.file("mapping.clio", (self.folder / "mapping.clio").read_text().replace("key (name);", ""))
+        self.assertIn("each match of rule 0 makes a row of its own in customer", self.said("exchange"))
+
     def test_clash_of_a_literal(self) -> None:
         self.file("mapping.clio", """mapping 1; source { set a { x; } set b { x, k; } }
             target { set t { x, k; key (x); } }
