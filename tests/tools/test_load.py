@@ -358,6 +358,35 @@ class Common(Loads):
         self.refused("clio-load", *self.base.words, "--key", "nobody=mail", why="no such table")
         self.refused("clio-load", *self.base.words, "--key", "town=tid", why="gives no column tid")
 
+    def test_identity(self) -> None:
+        """With --identity a town that is there keeps its number, new ones get the next, and the crosswalk keeps all."""
+        self.base.run("INSERT INTO country VALUES ('AT'), ('DE'); INSERT INTO town (name, iso) VALUES ('Graz', 'AT'), "
+                      "('Ulm', 'DE')")
+        self.source(FIRST)
+        status, printed = self.dry("--identity", "--others")
+        self.assertIn("town: 2 to insert, 0 to change, 0 to delete, 1 equal, 1 of others", printed)
+        self.load("--identity")
+        towns = {"Graz AT": "1", "Ulm DE": "2", "Bonn DE": "3", "Paris FR": "4"}
+        numbers = self.base.numbers()["town"]
+        self.assertEqual({key: numbers[key] for key in ("Graz AT", "Ulm DE")}, {"Graz AT": "1", "Ulm DE": "2"})
+        self.assertEqual(sorted(str(number) for number in numbers.values()), sorted(towns.values()))
+        self.assertEqual(set(numbers), set(towns))
+        self.assertEqual([row[:2] for row in self.base.state()["warehouse"]],
+                         [("N", "Bonn"), ("S", "Ulm"), ("W", "Paris")])
+        self.assertEqual(self.dry("--identity", "--others")[0], 0)
+        self.source(changed(FIRST, depot=[["N", "Bonn", "DE"], ["X", "Rome", "IT"]], held=[]))
+        self.load("--identity", "--delete")
+        self.base.run("INSERT INTO town (name, iso) VALUES ('Linz', 'AT')")
+        self.source(FIRST)
+        self.load("--identity", "--delete")
+        after = self.base.numbers()["town"]
+        self.assertEqual(after["Bonn DE"], numbers["Bonn DE"])
+        self.assertEqual(after["Ulm DE"], "2")
+        self.assertEqual(len(set(after.values())), 5)
+        self.assertEqual([row[:2] for row in self.base.state()["warehouse"]],
+                         [("N", "Bonn"), ("S", "Ulm"), ("W", "Paris")])
+        self.refused("clio-load", *self.base.words, "--identity", why="--identity needs --ids")
+
     def test_out(self) -> None:
         """Files of an exchange are taken with their summary, and refused if they are cut, old or of another mapping."""
         self.source(FIRST)

@@ -3,6 +3,8 @@ import sqlite3
 
 from clio_tools.ids.sureness import FOLDED, LED, OTHER, OWN, RULE
 
+GIVEN = ("CREATE TABLE given (set_name TEXT NOT NULL, column_name TEXT NOT NULL, number INTEGER NOT NULL,"
+         " value INTEGER NOT NULL, PRIMARY KEY (set_name, column_name, number), UNIQUE (set_name, column_name, value))")
 GREATEST = 2**63 - 1  # no greater number is ever given
 NUMBER = "typeof(number) <> 'integer' OR number < 1 OR number >= (SELECT number FROM next)"
 CHECKS = [
@@ -34,7 +36,7 @@ def check_contents(base: sqlite3.Connection, statements: list[str]) -> str:
         if said != "ok":
             return str(said)
     made = base.execute("SELECT sql FROM main.sqlite_master WHERE sql IS NOT NULL")
-    there = {" ".join(text.split()) for text, in made}
+    there = {" ".join(text.split()) for text, in made} - {GIVEN}
     if there != set(statements):
         other = sorted(there.symmetric_difference(statements))[0]
         return f"it has other tables than clio-ids makes: {other[:200]}"

@@ -24,7 +24,8 @@ def check_whole(crosswalk: Crosswalk) -> None:
 
 def prepared(tables: list[Set], crosswalk: Crosswalk, chosen: dict[tuple[str, str], bool],
              nested: bool) -> tuple[Naming, Files, dict[str, bytes]]:
-    """Names the nulls, and writes the files beside those that are there, with their digests; the crosswalk keeps nothing
+    """Names the nulls, and writes the files beside those that are there, with their digests; the crosswalk keeps
+    nothing
     before it is committed.
     """
     target = Target(tables)

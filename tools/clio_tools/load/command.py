@@ -22,6 +22,10 @@ NULL too.
 OPTIONS
 `--ids CROSSWALK` gives surrogate keys their numbers.
 
+`--identity` has columns that the database numbers by itself keep to that: a new thing gets the number of the row to
+which
+another key of its own leads, or else the next one, and the crosswalk keeps it.
+
 `--delete`, `--mark COLUMN` or `--keep` says what becomes of rows that a former load wrote and the target no longer has:
 they are deleted, or COLUMN is set (to true, 1 or the time), or they are kept, which is the default. Rows that no load
 has written are never touched if the target doesn't have them.
@@ -99,6 +103,8 @@ def asked(words: list[str]) -> argparse.Namespace:
     given = parser.parse_args(words)
     if (given.out is None) != (given.summary is None):
         parser.error("--out and --summary go together")
+    if given.identity and given.ids is None:
+        parser.error("--identity needs --ids: the crosswalk keeps the numbers that the database gives")
     return given
 
 
@@ -106,6 +112,7 @@ def add_options(parser: argparse.ArgumentParser) -> None:
     """The options of both databases."""
     add = parser.add_argument
     add("--ids", metavar="CROSSWALK", help="give surrogate keys the numbers of this crosswalk")
+    add("--identity", action="store_true", help="give them the numbers of the database's own identity columns")
     gone = parser.add_mutually_exclusive_group()
     gone.add_argument("--keep", dest="gone", action="store_const", const=KEEP, default=KEEP,
                       help="keep rows that the target no longer has")

@@ -4,7 +4,7 @@ from __future__ import annotations
 import abc
 import contextlib
 import pathlib
-from collections.abc import Iterator
+from collections.abc import Iterable, Iterator
 from typing import NamedTuple
 
 from clio_tools.load.catalog import BOOLEAN, INTEGER, NUMBER, Catalog, Column
@@ -64,6 +64,15 @@ class Database(abc.ABC):
     @abc.abstractmethod
     def may_misfit(self, plan: TablePlan, options: Options) -> bool:
         """Whether a cell of the file that was read would be altered silently, or whether its table can't hold one."""
+
+    @abc.abstractmethod
+    def insert(self, table: str, rows: Iterable[Cells]) -> None:
+        """Puts rows of texts into a work table."""
+
+    @abc.abstractmethod
+    def next_value(self, plan: TablePlan, column: Column, least: str, is_dry: bool) -> str:
+        """The next value of a column that the database numbers, in a query whose rows have a place from 1; it is behind
+        another value. In a dry run it is the one that would come."""
 
     @abc.abstractmethod
     def misfits(self, plan: TablePlan, options: Options) -> list[Misfit]:

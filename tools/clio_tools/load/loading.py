@@ -12,6 +12,7 @@ from clio_tools.ids.crosswalk import Crosswalk
 from clio_tools.load.changing import Change, Tell
 from clio_tools.load.comparing import DELETE, Comparison
 from clio_tools.load.database import Database, Misfit, Options, literal
+from clio_tools.load.identity import Identity
 from clio_tools.load.plan import Plan, TablePlan
 from clio_tools.load.record import Record
 from clio_tools.load.telling import SAMPLES, Differences, said_of, shown_name
@@ -32,6 +33,8 @@ class Load:
         self.database, self.plan, self.space, self.crosswalk = database, plan, space, crosswalk
         self.options, self.gone, self.given, self.tell = options, gone, given, tell
         self.is_dry: bool = given.dry_run
+        self.identity = Identity(database, plan, space.mapping.target,
+                                 crosswalk) if given.identity and crosswalk else None
 
     def run(self) -> int:
         """Does it all; answers the status."""
@@ -70,6 +73,8 @@ class Load:
         for plan in self.plan.tables:
             plan.is_empty = self.database.value(f"SELECT 1 FROM {plan.table.sql} LIMIT 1") is None
             self.database.convert(plan, self.options, self.is_dry)
+        if self.identity is not None:
+            self.identity.translate(self.is_dry)
         for plan in self.plan.tables:
             comparison.compare(plan, rows[plan.number])
             self.tell(f"compared {plan.table.name}")
@@ -107,8 +112,10 @@ class Load:
         Change(comparison, self.tell).write()
         if self.given.log:
             self.log(comparison)
-        if self.crosswalk is not None and self.space.digests:
-            self.crosswalk.commit(self.space.digests)
+        if self.crosswalk is not None:
+            if self.identity is not None:
+                self.identity.keep()
+            self.crosswalk.commit(self.space.digests or self.crosswalk.written())
 
     def check_referred(self, comparison: Comparison) -> None:
         """Refuses to leave rows that refer to nothing."""

@@ -4,7 +4,7 @@ from __future__ import annotations
 import contextlib
 import pathlib
 import re
-from collections.abc import Iterator
+from collections.abc import Iterable, Iterator
 from typing import IO
 
 from clio_tools.csv import read_records, read_table
@@ -132,6 +132,17 @@ class Postgres(Database):
             except DatabaseError as error:
                 raise Refused(f"out/{path.name} is not as clio writes it: {error.cause}") from None
 
+    def insert(self, table: str, rows: Iterable[Cells]) -> None:
+        self.session.copy_rows_in(table, rows)
+
+    def next_value(self, plan: TablePlan, column: Column, least: str, is_dry: bool) -> str:
+        if column.sequence is not None and not is_dry:
+            return f"pg_catalog.nextval({literal(column.sequence)})"
+        parts = [f"coalesce({least}, 0)", f"coalesce((SELECT max({identifier(column.name)}) FROM {plan.table.sql}), 0)"]
+        if column.sequence is not None:
+            parts.append(f"(SELECT last_value - CASE WHEN is_called THEN 0 ELSE 1 END FROM {column.sequence})")
+        return f"greatest({', '.join(parts)}) + place"
+
     def cell(self, plan: TablePlan, number: int, options: Options) -> str:
         """The text of a loaded column in SQL, NULL if there is to be no value."""
         place, column = plan.columns[number]
@@ -144,7 +155,7 @@ class Postgres(Database):
     def convert(self, plan: TablePlan, options: Options, is_dry: bool) -> None:
         cells = [self.cell(plan, number, options) + ("" if column.kind == TEXT else f"::{column.type}")
                  for number, column in enumerate(plan.loaded)]
-        if plan.is_empty and not is_dry:
+        if plan.is_empty and not is_dry and not plan.is_translated:
             made = ", ".join(f"({cell}) AS c{number}" for number, cell in enumerate(cells))
             self.run(f"CREATE TEMP VIEW {plan.work('new')} AS SELECT {made} FROM {plan.work('raw')}")
             return

@@ -7,13 +7,13 @@ import pathlib
 import re
 import sqlite3
 import urllib.parse
-from collections.abc import Callable, Iterator
+from collections.abc import Callable, Iterable, Iterator
 
 from clio_tools.csv import read_table
 from clio_tools.draft import model, sqlite
 from clio_tools.load.catalog import (BOOLEAN, DATE, INTEGER, NUMBER, OTHER, TEXT, TIME, Catalog, Column, ForeignKey,
                                      Table)
-from clio_tools.load.database import Cells, Database, Misfit, Options, identifier
+from clio_tools.load.database import Cells, Database, Misfit, Options, identifier, literal
 from clio_tools.load.plan import Plan, TablePlan
 from clio_tools.program import Refused, stop_by_exception
 
@@ -151,6 +151,19 @@ class Sqlite(Database):
         rows = ([make(row[place]) for place, make in makers] for row in checked(path, plan))
         with self.told():
             return self.base.executemany(f"INSERT INTO {plan.work('new')} VALUES ({marks})", rows).rowcount
+
+    def insert(self, table: str, rows: Iterable[Cells]) -> None:
+        listed = list(rows)
+        with self.told():
+            if listed:
+                self.base.executemany(f"INSERT INTO {table} VALUES ({', '.join('?' * len(listed[0]))})", listed)
+
+    def next_value(self, plan: TablePlan, column: Column, least: str, is_dry: bool) -> str:
+        parts = [f"coalesce({least}, 0)", f"coalesce((SELECT max({identifier(column.name)}) FROM {plan.table.sql}), 0)"]
+        if self.value("SELECT 1 FROM main.sqlite_master WHERE name = 'sqlite_sequence'"):
+            parts.append(f"coalesce((SELECT max(seq) FROM main.sqlite_sequence WHERE name = "
+                         f"{literal(plan.table.name)}), 0)")
+        return f"max({', '.join(parts)}) + place"
 
     def tests(self, plan: TablePlan) -> Iterator[tuple[int, Column, str, str]]:
         """For each column that can't hold all texts the condition that a cell doesn't fit, and why it doesn't then."""
