@@ -332,6 +332,51 @@ class Sizes(Trial):
         self.assertTrue(all(cell.startswith("?") for cell in value["3"][7:9]))
 
 
+class Limits(Trial):
+    """What is past a limit of clio is said with the count, where it comes from, and what to write."""
+
+    def said(self, source: str, target: str, notes: str, why: str) -> None:
+        """The drawing is refused so."""
+        self.file("drawing.clio", f"mapping 2;\nsource {{ {source} }}\ntarget {{ {target} }}\n{notes}\n")
+        self.refused("clio-rules", "--write", why=why)
+
+    def test_rules(self) -> None:
+        links, sets = range(43), range(6)
+        keys = ", ".join(f"k{n}" for n in links)
+        refs = " ".join(f"ref (k{n}) -> d (id) optional;" for n in links)
+        self.said("".join(f"set f{n} {{ no, {keys}; {refs} }} " for n in sets) + "set d { id, v; }",
+                  "".join(f"set t{n} {{ no, {keys}; key (no); }} " for n in sets),
+                  "".join(f"rows t{n} from f{n};\nline f{n}.no -> t{n}.no;\n" + "".join(
+                      f"line d.v -> t{n}.k{link} by k{link};\n" for link in links) for n in sets),
+                  "drawing.clio:4:1: the drawing means 264 rules, and clio takes 256: write `lookup d;`, by which the "
+                  "links of a row are in one rule, or make two drawings\n  rows t0 from f0;\n  ^^^^^^^^^^^^^^^^")
+
+    def test_sets(self) -> None:
+        more = " ".join(f"set s{n} {{ x; }}" for n in range(63))
+        self.said("set f { x, y, z; } " + more, "set t { x; key (x); }",
+                  'rows t from f where y = "a", z = "b";\nline f.x -> t.x;',
+                  "the source has 66 sets with the 2 that tests take, and clio takes 64: leave out sets, or tests")
+        self.said("set f { a, x; ref (a) -> d (id); } set d { id, v; }", "set t { x, y; key (x); } " + more,
+                  "rows t from f;\nline f.x -> t.x;\nline d.v -> t.y;\nlookup d;",
+                  "the target has 65 sets with the 1 of `lookup`, and clio takes 64: look up fewer sets, or make two")
+
+    def test_columns(self) -> None:
+        columns = [f"c{n}" for n in range(40)]
+        self.said(f"set f {{ a; ref (a) -> d (id); }} set d {{ id, {', '.join(columns)}; }}",
+                  "".join(f"set t{n} {{ {', '.join(columns)}; }} " for n in range(2)),
+                  "rows t0 from f;\nrows t1 from f;\n" + "".join(
+                      f"line d.{one} -> t0.{one};\nline trim(d.{one}) -> t1.{one};\n" for one in columns) + "lookup d;",
+                  "lookup_d has 81 columns, one for each value that links take from d, and clio takes 64: leave d out of"
+                  " `lookup`\n  lookup d;\n         ^")
+
+    def test_rows_at_once(self) -> None:
+        way = ".".join(["mgr"] * 64)
+        self.said("set emp { id, mgr; ref (mgr) -> emp (id); }", "set t { x; key (x); }",
+                  f"rows t from emp with {way};\nline emp.id -> t.x;",
+                  "a rule of these rows goes along 64 links and tests, and clio takes 64 sets on a side of a rule: leave "
+                  "some to another `rows` of t")
+
+
 class Random(Trial):
     def test_random_drawings_are_as_sql_says(self) -> None:
         tally: Counter[str] = Counter()

@@ -3,11 +3,12 @@
 A match of a rule counts once for each way in which the rows of its left side go together. Equal matches aren't looked
 for, so the number is the most that there can be. Rules over documents aren't counted."""
 import pathlib
-from typing import Iterable, Optional
+from typing import Optional
 
 from ..csv import read_table
 from ..mapping.meanings import TESTS
 from ..program import Refused
+from .limits import links_of
 from .model import Drawing, Made
 from .terms import Test
 from .ways import Step, Way
@@ -33,19 +34,13 @@ class Sizes:
             return None
         by_set: dict[str, int] = {}
         for made, count in zip(self.drawing.made, cells):
-            for name in self._links_of(made):
+            for name in links_of(self.drawing, made):
                 by_set[name] = by_set.get(name, 0) + count
         names = sorted(by_set, key=lambda name: -by_set[name])
         hint = f"write `lookup {', '.join(names)};`, or" if names else "split the source, or"
         return (f"the rules make {sum(cells):,} cells of the files here, and clio takes {TARGET_CELLS:,} (target "
                 f"cells): "
                 f"{hint} take clio-sql for this mapping, which `clio-rules --write --large` writes")
-
-    def _links_of(self, made: Made) -> Iterable[str]:
-        """The sets of the links that a rule goes along, as far as they can be looked up."""
-        looked_up = {word.text for word in self.drawing.tree.lookups}
-        steps = {way[0] for way in made.extra.ways if not made.extra.tests}
-        return {self.drawing.ways.name(step.table) for step in steps} - looked_up
 
     def _most(self, made: Made) -> int:
         """At most so many cells come of a rule whose ways lead to one row each."""

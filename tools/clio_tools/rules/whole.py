@@ -9,6 +9,7 @@ from ..mapping.parser import parse
 from ..mapping.places import Fault
 from ..mapping.schema import schema_of
 from .asking import rules_of as rules_by_clio
+from .limits import limit_said
 from .links import work_out_links
 from .lookups import look_up
 from .making import make_rules
@@ -63,5 +64,6 @@ def printed(drawing: Drawing) -> Printed:
         raise Faulty([why.fault]) from None
     _, message = rules_by_clio(made.text)
     if message:
-        raise Faulty([Fault("meaning", 0, 0, f"clio would refuse the printed mapping: {message}")])
+        past = limit_said(drawing, made, message)
+        raise Faulty([past or Fault("meaning", 0, 0, f"clio would refuse the printed mapping: {message}")])
     return made
