@@ -135,7 +135,7 @@ LIMITS = [
     limit("occurrences", "mapping 1; source {" + CHAIN + "} target { set t { y; } } line a.x -> t.y;",
           "from a of the source follow 85 tables", "b (21)"),
     limit("occurrences of a rule", SIDES + "rule " + ", ".join(["a(x, y)"] * 65) + " -> b(x, y);",
-          "hand-written rule 0", "65 sets on its left", "^"),
+          "this hand-written rule has 65 sets on its left", "^"),
     limit("ways", "mapping 1; source { set a {" + ", ".join(f"c{n}" for n in range(13))
           + "; } } target { set b { v, w, x, y, z; } }"
           + "".join(f"line a.c{n} -> b.{name};" for n in range(13) for name in "vwxyz"), "most are from a", "to b",

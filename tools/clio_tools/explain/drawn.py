@@ -7,7 +7,7 @@ from clio_tools.explain.program import mapping_of
 from clio_tools.explain.said import visible
 from clio_tools.mapping.meaning import read_mapping
 from clio_tools.mapping.places import Text
-from clio_tools.mapping.rules import TooLarge, closed, printed as printed_rule
+from clio_tools.mapping.rules import numbers_of
 from clio_tools.rules.printed import Origin, Printed, is_as_printed, marked
 from clio_tools.rules.whole import Faulty, worked_out
 from clio_tools.rules.ways import Wrong
@@ -53,13 +53,9 @@ def _origins(made: Printed, content: bytes) -> dict[int, Origin]:
     """What led to each rule, by the numbers that clio gives them: it leaves out those that follow from others."""
     shown, written = mapping_of(content)[1], read_mapping(content)
     found: dict[int, Origin] = {}
-    for rule, origin in zip(written.rules, made.origins()):
-        try:
-            printed = printed_rule(closed(rule, written.target), written.source, written.target)
-        except TooLarge:
-            continue
-        if printed in shown:
-            found.setdefault(shown.index(printed), origin)
+    for number, origin in zip(numbers_of(written.rules, written.source, written.target, shown), made.origins()):
+        if number is not None:
+            found.setdefault(number, origin)
     return found
 
 

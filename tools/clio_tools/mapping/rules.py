@@ -114,6 +114,19 @@ def printed(rule: Rule, source: list[Table], target: list[Table]) -> str:
     return f"rule {', '.join(premise)}{where} -> {', '.join(conclusion)};"
 
 
+def numbers_of(rules: Iterable[Rule], source: list[Table], target: list[Table], shown: list[str]) -> list[int | None]:
+    """The numbers that rules have among those that clio prints; none of one that it leaves out, as others imply it."""
+
+    def number_of(rule: Rule) -> int | None:
+        try:
+            text = printed(closed(rule, target), source, target)
+        except TooLarge:
+            return None
+        return shown.index(text) if text in shown else None
+
+    return [number_of(rule) for rule in rules]
+
+
 def variable(number: int) -> str:
     """How a variable of the premise, or a derived one, is printed."""
     return f"x{number}"

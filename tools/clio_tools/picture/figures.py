@@ -50,8 +50,8 @@ class AtomBox:
 class Figure:
     """The figure of a rule."""
 
-    def __init__(self, number: int, rule: Rule, text: tree.Rule, mapping: Mapping) -> None:
-        self.title = f"rule {number} of those written by hand"
+    def __init__(self, title: str, rule: Rule, text: tree.Rule, mapping: Mapping) -> None:
+        self.title = title
         self.rule, self.text, self.first = rule, text, rule.premise_variables()
         self.left = [AtomBox(mapping.source[atom.table], [cell.value.text for cell in written.cells])
                      for atom, written in zip(rule.premise, text.premise)]

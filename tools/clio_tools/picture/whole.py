@@ -2,6 +2,7 @@
 import math
 
 from clio_tools.mapping.meaning import Mapping
+from clio_tools.mapping.rules import numbers_of
 from clio_tools.mapping.tables import Table
 from clio_tools.picture.boxes import Box, Tests, stacked
 from clio_tools.picture.figures import Figure, flowed
@@ -13,10 +14,12 @@ TOP = 52
 
 
 class Picture:
-    """Both sides with the lines between them, and below them the rules that are written by hand."""
+    """Both sides with the lines between them, and below them the rules that are written by hand; `shown` has all rules
+    as clio prints them.
+    """
 
-    def __init__(self, mapping: Mapping, name: str) -> None:
-        self.mapping, self.texts, self.name = mapping, mapping.texts, name
+    def __init__(self, mapping: Mapping, name: str, shown: list[str] | None = None) -> None:
+        self.mapping, self.texts, self.name, self.shown = mapping, mapping.texts, name, shown
         heights = heights_of(mapping.lines)
         tests: Tests = {}
         for condition in mapping.conditions:
@@ -63,10 +66,18 @@ class Picture:
         """The tables of boxes and of those inside them."""
         return [number for box in boxes for number in [box.number, *self.numbers(box.inner)]]
 
+    def titles(self) -> list[str]:
+        """What is above the figure of each rule: its number among those that clio prints, if they are known."""
+        mapping = self.mapping
+        if self.shown is None:
+            return ["a hand-written rule" for _ in mapping.rules]
+        return ["a rule that clio leaves out, since others imply it" if number is None else f"rule {number}"
+                for number in numbers_of(mapping.rules, mapping.source, mapping.target, self.shown)]
+
     def rules(self, parts: list[str], y: float, width: float) -> tuple[float, float]:
         """The figures of the rules; answers the width and the height up to their ends."""
-        figures = [Figure(number, rule, text, self.mapping)
-                   for number, (rule, text) in enumerate(zip(self.mapping.rules, self.texts), 1)]
+        figures = [Figure(title, rule, text, self.mapping)
+                   for title, rule, text in zip(self.titles(), self.mapping.rules, self.texts)]
         if not figures:
             return 0, y
         made = flowed(figures, 8, y + 20, max(width, 900))

@@ -48,10 +48,10 @@ def write_not_used(figures: Figures) -> dict[int, str]:
     return written
 
 
-def picture_of_mapping(name: str) -> str:
-    """The picture, from the mapping as it is written."""
+def picture_of_mapping(name: str, shown: list[str]) -> str:
+    """The picture, from the mapping as it is written; `shown` has the rules as clio prints them."""
     content = pathlib.Path("mapping.clio").read_bytes()
-    return sections.picture(Picture(read_mapping(content), name).drawn())
+    return sections.picture(Picture(read_mapping(content), name, shown).drawn())
 
 
 def work(words: list[str]) -> None:
@@ -60,7 +60,7 @@ def work(words: list[str]) -> None:
     os.chdir(words[0] if words else ".")
     figures = Figures()
     name = os.path.basename(os.path.realpath("."))
-    parts = [*sections.head(figures, name), picture_of_mapping(name),
+    parts = [*sections.head(figures, name), picture_of_mapping(name, figures.printed),
              *sections.source(figures, write_not_used(figures)), *sections.rules(figures), *sections.target(figures),
              *sections.nulls(figures)]
     sys.stdout.write(whole(f"The exchange of {name}", parts))
