@@ -34,10 +34,11 @@ class Given:
     def files(self) -> dict[str, str]:
         """All files."""
         for target in self.one.targets:
-            names = ["sk", "no", *target.columns, *target.links]
+            names = target.names()
             self.tables.setdefault(target.name, []).insert(0, names)
             for row in self.wanted[target.name]:
-                self.tables[target.name].append(self.row(target, dict(zip(names[1:], row))))
+                self.tables[target.name].append(self.row(target, dict(zip(names[1:], row))) if target.has_key
+                                                else [cell or "" for cell in row])
         self.look_up()
         return {f"given/{name}.csv": "".join(",".join(cell or '""' for cell in row) + "\n" for row in table)
                 for name, table in self.tables.items()}
@@ -76,7 +77,7 @@ class Given:
     def looks(self, start: str, value: Value, needed: list[list[str]]) -> Optional[tuple[str, str, Value]]:
         """In which set a value is looked up, by which ref of the row, and what of the row there it is."""
         steps = [each[0] for each, _ in value.taken if each]
-        if value.is_tested or len(steps) < len(value.taken) or len(set(steps)) > 1:
+        if value.tests or len(steps) < len(value.taken) or len(set(steps)) > 1:
             return None
         end = dict(self.one.refs[start])[steps[0]]
         if end not in self.one.looked_up or any(must[0] == steps[0] for must in needed if must):
@@ -114,7 +115,7 @@ class Given:
     def look_up(self) -> None:
         """The tables of the sets that are looked up: for each row of the source, and for each key that is asked."""
         asked: dict[str, set[str]] = {}
-        for target in self.one.targets:
+        for target in [target for target in self.one.targets if target.has_key]:
             for value in target.columns.values():
                 looked = self.looks(target.start, value, [*target.musts, *(steps for steps, _ in target.tests)])
                 if looked:

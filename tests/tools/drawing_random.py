@@ -10,6 +10,7 @@ from typing import Optional
 from drawing_trial import Table, in_order
 
 Steps = list[str]
+Need = frozenset[object]  # ways, and tests at their ends
 
 
 @dataclass
@@ -18,7 +19,7 @@ class Value:
 
     conversion: str
     taken: list[tuple[Steps, str]]
-    is_tested: bool = False
+    tests: Need = frozenset()
 
 
 class Joins:
@@ -57,7 +58,27 @@ class Target:
     columns: dict[str, Value] = field(default_factory=dict)
     links: dict[str, str] = field(default_factory=dict)
     required: set[str] = field(default_factory=set)
+    needs: list[Need] = field(default_factory=list)  # of its lines
     query: str = ""
+    has_key: bool = True
+
+    def names(self) -> list[str]:
+        """All columns."""
+        return ["sk", "no", *self.columns, *self.links] if self.has_key else [*self.columns]
+
+    def base_after(self, way: Steps) -> Need:
+        """What each row needs, as it is seen from the beginning of a way to it."""
+        need = frozenset[object]().union(*(need_of(must, way) for must in self.musts))
+        return need.union(*(need_of(steps, way) | {(*way, *steps, "=", text)} for steps, text in self.tests))
+
+    def number_of_rules(self) -> int:
+        """One for the rows, and one for each different need beyond what each row needs."""
+        return len({frozenset(), *(need - self.base_after([]) for need in self.needs)})
+
+
+def need_of(steps: Steps, after: Steps = []) -> Need:
+    """The beginnings of a way behind another one."""
+    return frozenset((*after, *steps[:count]) for count in range(1, len(steps) + 1))
 
 
 class Random:
@@ -77,6 +98,8 @@ class Random:
             self.items.append(f"lookup {', '.join(self.looked_up)};")
         source = "".join(self.source_set(one) for one in self.sets)
         target = "".join(self.target_set(number) for number in range(self.r.randrange(1, 4)))
+        if self.r.random() < .4:
+            target += self.keyless_set()
         self.r.shuffle(self.items)
         self.files["drawing.clio"] = "\n".join(["mapping 2;", f"source {{\n{source}}}", f"target {{\n{target}}}",
                                                 *self.items, ""])
@@ -129,8 +152,28 @@ class Random:
         clauses = self.link(one, joins, chosen) + self.circle(one, joins, chosen)
         one.query = joins.text(chosen)
         self.targets.append(one)
-        names = ["sk", "no", *one.columns, *one.links]
-        return f"  set {one.name} {{ {', '.join(names)}; key (no); key (sk);{clauses} }}\n"
+        one.needs += [frozenset().union(*(need_of(steps) for steps, _ in value.taken), value.tests)
+                      for value in one.columns.values()]
+        return f"  set {one.name} {{ {', '.join(one.names())}; key (no); key (sk);{clauses} }}\n"
+
+    def keyless_set(self) -> str:
+        """A target set without keys: rows that say the same are one."""
+        start = self.r.choice(self.sets)
+        one = Target("t9", start, [self.way(start, 2, 1)[0] for _ in range(self.r.randrange(3))], [], has_key=False)
+        joins, chosen = self.base(one), list[str]()
+        self.items.append(self.rows(one))
+        for place in range(self.r.randrange(1, 4)):
+            steps: Steps = self.r.choice([list[str](), *one.musts])
+            end = start
+            for step in steps:
+                end = dict(self.refs[end])[step]
+            taken, by = self.r.choice(["val", "kind"]), f" by {'.'.join(steps)}" if steps else ""
+            one.columns[f"c{place}"] = Value("", [(steps, taken)])
+            self.items.append(f"line {end}.{taken} -> {one.name}.c{place}{by};")
+            chosen.append(f"{joins.along(steps)}.{taken}")
+        one.query = joins.text(chosen).replace("SELECT", "SELECT DISTINCT", 1)
+        self.targets.append(one)
+        return f"  set {one.name} {{ {', '.join(one.names())}; }}\n"
 
     def base(self, one: Target) -> Joins:
         """The joins that keep the rows of a target set."""
@@ -164,9 +207,10 @@ class Random:
             self.items.append(f"line pair({end}.{taken}{by}, {second}) -> {one.name}.{column};")
             one.columns[column] = Value("pair", [(steps, taken), (more, "kind")])
             return f"{sql} || ' ' || {joins.along(more)}.kind"
-        one.columns[column] = Value("", [(steps, taken)], kind < .5)
+        one.columns[column] = Value("", [(steps, taken)])
         if kind < .5:
             test = self.r.choice(['kind = "x"', "val filled", 'val = ""'])
+            one.columns[column].tests = frozenset([("=", "x") if test.startswith("kind") else test])
             self.items.append(f"line {end}.{taken} -> {one.name}.{column}{by} where {test};")
             said = {'kind = "x"': "a.kind = 'x'", "val filled": "a.val <> ''", 'val = ""': "a.val = ''"}[test]
             return f"CASE WHEN {said} THEN {sql} END"
@@ -183,6 +227,7 @@ class Random:
             return ""
         by = f" by {'.'.join(steps)}" if steps else ""
         self.items.append(f"line {other.start} -> {one.name}.l{by};")
+        one.needs.append(need_of(steps) | other.base_after(steps))
         one.links["l"] = other.name
         chosen.append(self.linked(other, joins.along(steps)))
         optional = self.r.choice([" optional", ""])
@@ -195,6 +240,7 @@ class Random:
         if not steps:
             return ""
         self.items.append(f"line {one.start} -> {one.name}.m by {'.'.join(steps)};")
+        one.needs.append(need_of(steps) | one.base_after(steps))
         one.links["m"] = one.name
         chosen.append(self.linked(one, joins.along(steps)))
         return f" ref (m) -> {one.name} (sk) optional;"

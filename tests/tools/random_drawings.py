@@ -16,9 +16,12 @@ def target_of(one: Random, folder: pathlib.Path) -> dict[str, Table]:
     """The target's rows in the form in which SQL says them; rows that a ref alone asked for have no number, and are
     left out."""
     tables = {each.name: records(folder / "out" / f"{each.name}.csv")[1:] for each in one.targets}
-    numbers = {(name, row[0]): value(row[1]) for name, rows in tables.items() for row in rows}
+    numbers = {(each.name, row[0]): value(row[1]) for each in one.targets if each.has_key for row in tables[each.name]}
     found: dict[str, Table] = {}
     for each in one.targets:
+        if not each.has_key:
+            found[each.name] = in_order([tuple(map(value, row)) for row in tables[each.name]])
+            continue
         width = 2 + len(each.columns)
         rows: Table = []
         for row in tables[each.name]:
@@ -35,10 +38,13 @@ def tried(seed: str, folder: pathlib.Path, tally: Counter[str]) -> Optional[str]
     for name, content in one.files.items():
         (folder / name).write_text(content, encoding="utf-8")
     try:
-        draw(folder)
+        text = draw(folder)
     except Faulty as why:
         tally["refused: " + why.faults[0].said[-50:]] += 1
         return None
+    rules = {each.name: text.count(f"\n// {each.name}: ") for each in one.targets}
+    if not one.looked_up and rules != {each.name: each.number_of_rules() for each in one.targets}:
+        return f"rules: {rules}"
     wanted = one.wanted(source_base(folder))
     for words in ([], ["--core"]):
         status, _, message = clio(folder, "exchange", *words)
@@ -75,6 +81,8 @@ def main() -> None:
         if said:
             bad += 1
             print("DIFFERS", seed, number, said, flush=True)
+        if (number + 1 - first) % 250 == 0 and number + 1 < first + count:
+            print(f"{number + 1 - first} drawings, {bad} differ", flush=True)
     print(f"{count} drawings, {bad} differ:", *(f"\n  {many} {what}" for what, many in tally.most_common()))
     sys.exit(bool(bad))
 
