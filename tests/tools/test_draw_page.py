@@ -183,6 +183,9 @@ class Results(Page):
                     "two rows of team agree on its key (label): label = toys", "?0.1.1"):
             self.assertIn(one, self.shown("#why"))
         self.assertEqual(self.count("#curves .because"), 2)
+        self.browser.click("[data-table=team] h3 button")
+        self.until_shown("[data-table=team] .groups", "1 row is there by rules 0 and 1")
+        self.until_shown("[data-table=team] .groups", "1 row is there by rule 1")
         self.assertEqual(self.browser.js(COLOUR % "[data-table=team] tbody .null"),
                          self.browser.js(COLOUR % "[data-table=person] tbody tr td:last-child .null"))
 
@@ -228,7 +231,7 @@ class Results(Page):
         self.until_shown("[data-table=b] tbody", "<img")
         self.browser.click('[data-table="b"] tbody tr:last-child')
         self.browser.until("!document.getElementById('why').hidden")
-        for tab in "rules", "lines", "sources", "warnings", "proposals", "hand":
+        for tab in "examples", "rules", "lines", "sources", "warnings", "proposals", "hand":
             self.browser.click(f"#tab-{tab}")
             time.sleep(.2)
         self.assertEqual(self.count("img, #panels script"), 0)

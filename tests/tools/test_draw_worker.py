@@ -204,6 +204,32 @@ class Live(unittest.TestCase):
         self.assertIsNone(place_of("clash: table a", b""))
 
 
+class Examples(unittest.TestCase):
+    def setUp(self) -> None:
+        self.addCleanup(os.chdir, os.getcwd())
+
+    def test_each_rule_key_ref_and_set_has_its_example(self) -> None:
+        folder = draw_trial.copy_of("teams")
+        text = (folder / "mapping.clio").read_text().replace("dept (dname);", "dept (dname) optional;")
+        text = text.replace("mapping 1", "mapping 2").replace("set dept { dname, city; }",
+                                                              "set dept { dname, city; } set bus { nr; }")
+        (folder / "bus.csv").write_text("nr\n1\n")
+        with open(folder / "emp.csv", "a", encoding="utf-8") as file:
+            file.write("cy,cars\n")
+        ask = Asked(folder)
+        made = ask.live(text)
+        found = ask("examples")["examples"]
+        self.assertEqual([one["rule"] for one in found if one["kind"] == "rule"], list(range(len(made["rules"]))))
+        self.assertEqual([one["says"] for one in found if one["kind"] != "rule"],
+                         ["key (label) of team", "a row of emp with a partner in dept by (dept)",
+                          "a row of emp without a partner in dept by (dept)",
+                          "a row of bus that is not used: no rule reads bus"])
+        self.assertEqual(found[-2]["sources"][0]["cells"], [["name", "cy"], ["dept", "cars"]])
+        for one in found:
+            for row in one.get("made", []):
+                self.assertIn(row["cells"], made["tables"][row["table"]]["rows"])
+
+
 class Choices(unittest.TestCase):
     def setUp(self) -> None:
         self.addCleanup(os.chdir, os.getcwd())

@@ -15,6 +15,7 @@ from ..why.exchange import is_null
 from . import faults
 from .clashing import rows_of_clash
 from .cures import of_warning
+from .examples import Examples
 from .meant import Meant, meant
 from .outline import Data, Outline
 from .reasons import Reasons
@@ -193,6 +194,16 @@ class Live:
         """The rows of the source with what became of them."""
         known = self.known()
         return {"error": known} if isinstance(known, str) else {"tables": known.source_tables(self.shown)}
+
+    def groups(self, table: str) -> Data:
+        """The rows of a target table, those that are there for one reason together."""
+        known = self.known()
+        return {"error": known} if isinstance(known, str) else known.groups(table)
+
+    def examples(self) -> Data:
+        """Chosen examples of what the mapping does."""
+        known = self.known()
+        return {"error": known} if isinstance(known, str) else {"examples": Examples(known).made()}
 
     def forward(self, table: str, row: int) -> Data:
         """Which rows of the target a source row has part in."""

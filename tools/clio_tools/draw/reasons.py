@@ -2,7 +2,9 @@
 the page, with the places in the whole files, and the lines of the page's text."""
 import pathlib
 from collections.abc import Iterator
+from itertools import islice
 
+from ..csv import records
 from ..explain.said import shown
 from ..program import Refused
 from ..why.data import CellReason, Match, Miss, Replacement, RowReason, SourceReason
@@ -15,6 +17,9 @@ from .outline import Data, Outline
 from .places import placed
 from .sample import Report
 
+MOST_GROUPED = 5_000  # rows of a target table that are put into groups
+MOST_ORIGINS = 1_000  # matches that are looked at of one row
+SHOWN = 3  # rows of a group that are shown
 MOST_COUNTED = 20_000  # rows of a source set of which each is looked at
 Group = tuple[str, str, tuple[str, ...], str, tuple[str, ...], str]  # what rows missed, without their texts
 
@@ -38,8 +43,23 @@ class Reasons:
             return {"unknown": str(why)}
         return {"cells": [self._cell(reason, one) for one in reason.cells],
                 "rules": [rule for rule, _ in reason.rules], "count": reason.count,
-                "asked": [self._match(one) for one in reason.asked],
-                "replaced": [self._replaced(one) for one in reason.replaced]}
+                "asked": [self.match(one) for one in reason.asked],
+                "replaced": [self.replaced(one) for one in reason.replaced]}
+
+    def groups(self, table: str) -> Data:
+        """The rows of a target table that are there for one reason: those that the same rules ask for."""
+        number = self.exchange.table(table)
+        found: dict[tuple[int, ...], list[list[str]]] = {}
+        entries = records((self.exchange.out / f"{table}.csv").read_bytes())
+        next(entries)
+        count = 0
+        for count, (_, row) in enumerate(islice(entries, MOST_GROUPED), 1):
+            origins = self.exchange.asking(number, dict(enumerate(row)))
+            rules = tuple(sorted({origin.rule for origin in islice(origins, MOST_ORIGINS)}))
+            found.setdefault(rules, []).append(row)
+        groups = [{"rules": list(rules), "count": len(rows), "rows": rows[:SHOWN]}
+                  for rules, rows in sorted(found.items(), key=lambda one: -len(one[1]))]
+        return {"groups": groups, "cut": count == MOST_GROUPED}
 
     def _cell(self, reason: RowReason, one: CellReason) -> Data:
         """Where the value of a cell is from."""
@@ -67,15 +87,15 @@ class Reasons:
         return next((number for number in sorted(names) if lines[number].target.column.text == one.column
                      and lines[number].target.set.text == table), None)
 
-    def _match(self, one: Match) -> Data:
+    def match(self, one: Match) -> Data:
         """A match that asks for a row, with its source rows."""
         return {"rule": one.rule, "atom": one.atom, "row": list(one.row), "more": one.count > len(one.sources),
                 "matches": [[placed(row, self.report) for row in rows] for rows in one.sources]}
 
-    def _replaced(self, one: Replacement) -> Data:
+    def replaced(self, one: Replacement) -> Data:
         """What came in the place of a null."""
         return {"null": one.null, "value": one.value, "by": one.by, "set": one.set, "columns": list(one.columns),
-                "agreed": list(one.agreed), "rows": [self._match(each) for each in one.matches]}
+                "agreed": list(one.agreed), "rows": [self.match(each) for each in one.matches]}
 
     # --- of source rows ----------------------------------------------------------------------------------------------
 
@@ -96,29 +116,29 @@ class Reasons:
         groups: dict[Group, Data] = {}
         first: list[Data] = []
         count = unused = 0
-        for fact in self._facts(number):
+        for fact in self.facts(number):
             count += 1
             if count > MOST_COUNTED:
                 break
-            misses = self._misses(fact)
+            misses = self.misses(fact)
             if misses:
                 unused += 1
                 self._put(misses[0], groups)
             if len(facts) < most:
                 facts.append(fact)
                 first.append({"cells": [fact.row[column] for column in columns],
-                              "why": _said(misses[0])[0] if misses else None})
+                              "why": said(misses[0])[0] if misses else None})
         return {"name": table.name, "columns": [table.columns[column] for column in columns],
                 "count": len(rows.rows), "counted": count <= MOST_COUNTED, "unused": unused, "rows": first,
-                "repeats": count - len({fact.row for fact in self._facts(number)}) if count <= MOST_COUNTED else 0,
+                "repeats": count - len({fact.row for fact in self.facts(number)}) if count <= MOST_COUNTED else 0,
                 "groups": list(groups.values()), "made_up": self.report[self._root(number)].kind == "made up"}
 
-    def _facts(self, number: int) -> Iterator[Fact]:
+    def facts(self, number: int) -> Iterator[Fact]:
         """The rows of a table as they are in the file."""
         source = self.exchange.source
         return (fact for fact in source.facts(source.root(number)) if fact.table == number)
 
-    def _misses(self, fact: Fact) -> tuple[Miss, ...]:
+    def misses(self, fact: Fact) -> tuple[Miss, ...]:
         """What a row missed; nothing if a rule uses it."""
         number = self.exchange.source.rows(fact.table).numbers.get(fact.row)
         if number is not None and self.known.missing.is_used(fact.table, number):
@@ -138,11 +158,11 @@ class Reasons:
         return {"row": placed(reason.row, self.report), "count": reason.count,
                 "rules": [rule for rule, _ in reason.rules],
                 "rows": [{"table": one.set, "cells": list(one.row), "rule": one.rule} for one in reason.made],
-                "misses": [_said(one) for one in reason.misses],
+                "misses": [said(one) for one in reason.misses],
                 "cures": cures.of_misses(reason.misses, self.outline) if reason.edits else []}
 
 
-def _said(miss: Miss) -> list[str]:
+def said(miss: Miss) -> list[str]:
     """What a row missed, in words."""
     texts = ", ".join(f"{column} = {shown(text)}" for column, text in zip(miss.columns, miss.texts))
     if miss.kind == "unread":

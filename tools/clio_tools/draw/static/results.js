@@ -5,7 +5,7 @@ import { because, change, edit, ghost, lineText, model, select } from "./model.j
 import { show } from "./trees.js";
 import { connect } from "./ways.js";
 
-const TABS = [["rows", "Target rows"], ["sources", "Source rows"], ["rules", "Rules"], ["warnings", "Warnings"], ["lines", "Lines"], ["proposals", "Proposals"], ["hand", "Rules by hand"]];
+const TABS = [["rows", "Target rows"], ["sources", "Source rows"], ["examples", "Examples"], ["rules", "Rules"], ["warnings", "Warnings"], ["lines", "Lines"], ["proposals", "Proposals"], ["hand", "Rules by hand"]];
 const panels = {}, buttons = {};
 let proposals = null, proposedFor = null;
 
@@ -36,6 +36,7 @@ export function open(name) {
   if (name === "proposals") propose();
   if (name === "sources") showSources();
   if (name === "lines") showLines();
+  if (name === "examples") showExamples();
 }
 
 const title = (name, count) => { buttons[name].textContent = TABS.find(([one]) => one === name)[1] + (count === null ? "" : ` (${count})`); };
@@ -65,6 +66,23 @@ export function showLive() {
   else if (!kept) fill(panels.rows, h("div", { class: "tables" }, h("p", { class: "note" }, live.fault ? "There are no rows until the fault is mended." : live.stopped ?? "")));
   warn(live);
   if (!panels.sources.hidden) showSources(); else sourcesFor = null;
+  if (!panels.examples.hidden) showExamples(); else examplesFor = null;
+}
+
+// Chosen examples: a match of each rule, a merge of each key, rows with and without a partner, and rows that are not used.
+let examplesFor = null;
+async function showExamples() {
+  if (examplesFor === model.live || !model.live?.tables) return;
+  const live = examplesFor = model.live;
+  const { examples, error } = await ask("examples", { whole: live.whole, run: live.run });
+  if (live !== model.live) return;
+  fill(panels.examples, error ? h("p", { class: "note" }, error) : examples.length ? examples.map(exampleCard) : h("p", { class: "empty" }, "There is nothing to show yet."));
+}
+
+function exampleCard(one) {
+  if (one.kind === "key") return h("div", { class: "card example" }, h("p", {}, h("strong", {}, one.says), " made two rows agree:"), stepOf(one.step));
+  return h("div", { class: "card example" }, h("p", {}, h("strong", {}, one.says)), one.sources.map(sourceRow),
+    one.made.length > 0 && h("p", {}, "asks for"), one.made.map((made) => h("p", { class: "made-row" }, h("strong", {}, made.table), "(", cells(made.cells), ")")));
 }
 
 // The rows of the source: which rules use each, or why none does; and where a row goes.
@@ -151,10 +169,22 @@ function showRows(live) {
 }
 
 function tableOf(name, table, isLazy) {
-  const section = h("section", { class: "target-table", "aria-label": `${name}, ${counted(table.count, "row")}`, "data-table": name }, h("h3", {}, name, h("span", {}, ` ${counted(table.count, "row")}${change(name)}`)));
+  const section = h("section", { class: "target-table", "aria-label": `${name}, ${counted(table.count, "row")}`, "data-table": name }, h("h3", {}, name, h("span", {}, ` ${counted(table.count, "row")}${change(name)} `), table.count > 1 && h("button", { class: "badge", onclick: () => group(name, groups) }, "by reason")));
+  const groups = h("div", { class: "groups" });
+  section.append(groups);
   section.make = () => { section.style.minHeight = ""; section.append(...rowsOf(name, table)); };
   if (isLazy && table.count) { section.style.flexBasis = "100%"; section.style.minHeight = `${Math.min(table.rows.length + 1, 13) * 24 + 24}px`; watcher.observe(section); } else section.make();
   return section;
+}
+
+// The rows of a table that are there for one reason, with how many they are.
+async function group(name, box) {
+  if (box.childElementCount) { fill(box); return; }
+  const { groups, cut, error } = await ask("groups", { whole: kept.whole, run: kept.run, table: name });
+  if (error) { say(error); return; }
+  fill(box, groups.map((one) => h("details", {}, h("summary", {}, `${counted(one.count, "row is", "rows are")} there by ${one.rules.length === 1 ? `rule ${one.rules[0]}` : `rules ${one.rules.join(" and ")}`}`),
+    one.rows.map((row) => h("p", { class: "made-row" }, name, "(", cells(row), ")")), one.count > one.rows.length && h("p", { class: "empty" }, `and ${one.count - one.rows.length} more`))),
+  cut && h("p", { class: "empty" }, "of the first 5,000 rows"));
 }
 
 function rowsOf(name, table) {
