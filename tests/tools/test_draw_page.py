@@ -218,6 +218,15 @@ class Results(Page):
         self.browser.click(button)
         self.until_text("line customer.e_mail -> person.mail;")
         self.browser.until(f"!document.querySelector({json.dumps(button)})")
+        label = self.browser.js("document.querySelector('#panel-proposals [aria-label^=Refuse]').ariaLabel")
+        refuse = f"#panel-proposals [aria-label={json.dumps(label)}]"
+        self.browser.click(refuse)
+        self.browser.until(f"!document.querySelector({json.dumps(refuse)})")
+        self.caret("0")
+        self.browser.type("// more\n")
+        self.settled()
+        self.browser.js("new Promise((done) => setTimeout(done, 300))")
+        self.assertEqual(self.count(refuse), 0)
 
     def test_hostile_texts_stay_texts(self) -> None:
         folder = draw_trial.room()

@@ -334,14 +334,27 @@ export function textChanged() {
   if (!panels.proposals.hidden) propose(); else title("proposals", null);
 }
 
+// Proposals that were refused stay refused as long as this page is there.
+const refused = new Set(JSON.parse(sessionStorage.getItem("refused") ?? "[]"));
+const nameOfProposal = (one) => `${one.source.join(".")} → ${one.target.join(".")}`;
+function refuse(one) {
+  refused.add(nameOfProposal(one));
+  sessionStorage.setItem("refused", JSON.stringify([...refused]));
+  ghost(null);
+  showProposals();
+  say(`refused: ${nameOfProposal(one)}`);
+}
+
 function showProposals(error) {
   if (!proposals) { fill(panels.proposals, h("p", { class: "empty" }, error ?? "")); return; }
-  title("proposals", proposals.length);
+  const open = proposals.filter((one) => !refused.has(nameOfProposal(one)));
+  title("proposals", open.length);
   fill(panels.proposals, h("p", { class: "empty" }, "None is added by itself. Points: names alike up to 70, sets 15, same texts (if the folder has rows of the target in given/) 30."),
-    h("ul", { class: "list" }, proposals.map((one) => h("li", { onmouseenter: () => ghost(one), onmouseleave: () => ghost(null), onfocusin: () => ghost(one), onfocusout: () => ghost(null) },
-      h("span", { class: "score" }, String(one.score)), h("code", {}, `${one.source.join(".")} → ${one.target.join(".")}`),
+    h("ul", { class: "list" }, open.map((one) => h("li", { onmouseenter: () => ghost(one), onmouseleave: () => ghost(null), onfocusin: () => ghost(one), onfocusout: () => ghost(null) },
+      h("span", { class: "score" }, String(one.score)), h("code", {}, nameOfProposal(one)),
       h("button", { onclick: () => { ghost(null); connect(one.source, one.target); }, "aria-label": `Draw ${one.source.join(".")} to ${one.target.join(".")}` }, "draw it"),
       h("button", { onclick: () => { show("source", ...one.source); show("target", ...one.target); ghost(one); } }, "show"),
+      h("button", { onclick: () => refuse(one), "aria-label": `Refuse ${one.source.join(".")} to ${one.target.join(".")}` }, "refuse"),
       h("span", { class: "reasons" }, one.reasons.join("; "))))));
 }
 
