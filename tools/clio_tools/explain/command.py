@@ -22,7 +22,11 @@ more on standard error, each text in quotes, cut if it is long, and without cont
     other: ..            the same of the second mapping; in what two schemas differ; the conditions, or the rule, that
                          keep mappings from being compared
     verdict not a ..     the source rows of the match and the given row that comes nearest, or the rows that break a key
-                         or a link
+                         or a link; then all that differs, table by table: keys and links that don't hold, rows that are
+                         missing, cells that differ, rows that nothing asks for, texts that nobody gave, values that
+                         nothing makes one; the first five of each kind, or all after `clio-explain judge --all`
+    verdict solution     which rows say more than they may, in the same way
+    forward .., backward ..  the rule that says more, the rows that show it, and what is not there
 
 If nothing was refused it warns of what the manual calls traps: a rule of lines that has a set twice, a ref of the
 source that drops rows, with their number, and whether a line uses it; columns of the source that go nowhere, and
@@ -37,7 +41,8 @@ If lines say more than was meant, the notes of a drawing (man clio-rules) follow
 mapping that clio-rules printed, it says which statements of the drawing led to them.
 
 It reads the mapping and the files anew after clio has ended, and runs `clio show` for the rules, and `clio judge` for a
-verdict once more. For data at clio's limits that takes up to a minute.
+verdict, with `clio exchange`, or `clio compare` once more, in a folder of its own. For data at clio's limits that takes
+up to a minute.
 
 `clio-explain version` prints the version, and which program `clio` is: its SHA-256, the sum of its sources, its
 toolchain.
@@ -79,7 +84,8 @@ def work(words: list[str]) -> None:
         return
     try:
         clio = program()
-        ended = subprocess.run([clio, *words], stderr=subprocess.PIPE, check=False)
+        own = ["judge"] if words == ["judge", "--all"] else words
+        ended = subprocess.run([clio, *own], stderr=subprocess.PIPE, check=False)
     except Refused as why:
         sys.exit(f"clio-explain: {why}")
     except OSError as error:

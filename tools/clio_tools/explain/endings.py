@@ -5,7 +5,7 @@ import re
 import signal
 from collections.abc import Iterator
 
-from clio_tools.explain import (clashes, document_faults, drawing_notes, drawn, given_faults, mapping_faults,
+from clio_tools.explain import (clashes, compared, document_faults, drawing_notes, drawn, given_faults, mapping_faults,
                                 other_faults, query_faults, sizes, system_faults, table_faults, traps, verdicts)
 from clio_tools.explain.placed import MappingText
 from clio_tools.explain.said import visible
@@ -83,8 +83,10 @@ def ending(status: int, message: str, words: list[str], content: bytes | None) -
         yield f"clio was ended by the signal {signal.Signals(-status).name}" + SIGNALS.get(-status, "")
     elif status == 0 and words[0] in ("show", "exchange") and content is not None:
         yield from drawing_notes.after_warnings(traps.explain(words, content), content)
-    elif status == 0 and words == ["judge"] and content is not None:
-        yield from verdicts.explain(content)
+    elif status == 0 and words[:1] == ["judge"] and content is not None:
+        yield from verdicts.explain(content, "--all" in words)
+    elif status == 0 and words == ["compare"]:
+        yield from compared.explain()
     elif status == 2:
         yield from usage(words, message)
     elif status == 3 and content is not None:

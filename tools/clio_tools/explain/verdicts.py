@@ -9,6 +9,7 @@ from collections.abc import Iterable, Iterator
 from clio_tools.csv import records
 from clio_tools.explain.given_faults import FOLDER
 from clio_tools.explain.joins import Matches, TooMany
+from clio_tools.explain.judged import Judged
 from clio_tools.explain.program import mapping_of
 from clio_tools.explain.said import amount, listed, shown, visible
 from clio_tools.explain.source import Source
@@ -18,6 +19,7 @@ from clio_tools.mapping.tables import Table
 from clio_tools.program import program
 
 FORM = re.compile(r"verdict not a solution: (?:rule (\d+) place (\d+)|(key|link) (\d+) of table (\w+))\n", re.ASCII)
+SAYS_MORE = b"verdict solution\n"
 ROWS = 3  # rows that are told of a link that doesn't hold
 
 
@@ -62,6 +64,8 @@ class Given:
         there = {tuple([values[column] for column in link.referred]) for values in self.rows[link.table]}
         lost = [row for row, values in enumerate(self.rows[number])
                 if tuple([values[column] for column in link.own]) not in there]
+        if not lost:
+            return
         other = self.tables[link.table]
         own = listed(table.columns[column] for column in link.own)
         referred = listed(other.columns[column] for column in link.referred)
@@ -69,6 +73,17 @@ class Given:
                f" by ({own}) -> {other.name} ({referred}):")
         for row in lost[:ROWS]:
             yield f"   {self.shown_row(number, row)}"
+
+    def all_broken(self, found: re.Match[str] | None) -> Iterator[str]:
+        """The keys and links that don't hold, but for the one that the verdict names."""
+        told = (found[3], int(found[4]), found[5]) if found and found[3] else None
+        for number, table in enumerate(self.tables):
+            for place in range(len(table.determinations())):
+                if told != ("key", place, table.name):
+                    yield from self.broken_key(number, place)
+            for place in range(len(table.links)):
+                if told != ("link", place, table.name):
+                    yield from self.broken_link(number, place)
 
     def missing(self, number: int, wanted: dict[int, str]) -> Iterator[str]:
         """If no row has the wanted values, which, by columns, and the row that comes nearest; if they have a key, one
@@ -128,14 +143,25 @@ def shared(rule: Rule, target: list[Table]) -> Iterable[str]:
                          for column, cell in enumerate(atom.cells) if cells.count(cell) > 1)
 
 
-def explain(content: bytes) -> Iterator[str]:
-    """The lines that explain the verdict that clio judge prints."""
+def explain(content: bytes, is_all: bool = False) -> Iterator[str]:
+    """The lines that explain the verdict that clio judge prints: its reason, then all differences, of each table the
+    first ones unless all are asked for.
+    """
     ended = subprocess.run([program(), "judge"], stdin=subprocess.DEVNULL, capture_output=True, check=False)
     found = FORM.fullmatch(ended.stdout.decode())
-    mapping, printed = mapping_of(content) if found else (None, [])
-    if found is None or mapping is None:
+    mapping, printed = mapping_of(content) if found or ended.stdout == SAYS_MORE else (None, [])
+    if mapping is None:
         return
     given = Given(mapping.target)
+    if found:
+        yield from reason(found, mapping, printed, given)
+    yield from given.all_broken(found)
+    rows = [[tuple(fields) for fields in rows] for rows in given.rows]
+    yield from Judged(mapping, rows, given.lines, is_all).words()
+
+
+def reason(found: re.Match[str], mapping: Mapping, printed: list[str], given: Given) -> Iterator[str]:
+    """The reason that the verdict has."""
     if found[1]:
         yield f"rule {found[1]}: {visible(printed[int(found[1])])[:300]}"
         try:
