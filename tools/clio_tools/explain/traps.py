@@ -12,7 +12,8 @@ from clio_tools.explain.quotes import odd_fields
 from clio_tools.explain.said import amount, listed, shown, visible
 from clio_tools.explain.source import Source, file_of
 from clio_tools.mapping.meaning import Mapping, read_mapping
-from clio_tools.mapping.rules import EXISTENTIAL, LITERAL, VARIABLE, Conclusion, Premise, Rule, TooLarge, closed
+from clio_tools.mapping.rules import (EXISTENTIAL, LITERAL, VARIABLE, Cell, Conclusion, Premise, Rule, TooLarge,
+                                       closed)
 from clio_tools.mapping.rules import printed as printed_rule
 from clio_tools.mapping.tables import Columns, Link, Table
 
@@ -123,11 +124,20 @@ class Traps:
         for number, table in enumerate(self.target):
             for place, rule in enumerate(self.rules):
                 if any(link.table == number and not has_other_key(table, link.referred) and is_open(rule, atom, link)
+                       and not self.is_joined(rule, [atom.cells[column] for column in link.own], link)
                        for atom in rule.conclusion for link in self.target[atom.table].links):
                     yield Warned("ungrouped", table.name, [
                         f"each match of rule {place} makes a row of its own in {table.name}: the rule leaves open the"
                         f" value by which other rows refer to it, and {table.name} has no other key"])
                     break
+
+    def is_joined(self, rule: Rule, value: list[Cell], link: Link) -> bool:
+        """Whether the value that a rule leaves open refers on to a row that another key makes one with others."""
+        onward = [one for one in self.target[link.table].links if one.own == link.referred]
+        return any(atom.table == one.table and [atom.cells[column] for column in one.referred] == value
+                   and any(all(atom.cells[column].kind != EXISTENTIAL for column in key)
+                           for key in self.target[one.table].keys)
+                   for one in onward for atom in rule.conclusion)
 
     def hidden_literals(self) -> Iterator[Warned]:
         """Lines from texts that no rule has: other lines fill the column wherever a rule makes a row."""

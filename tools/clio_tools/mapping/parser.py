@@ -12,6 +12,7 @@ from .tree import (Argument, Atom, Cell, Dependency, Derived, Item, Key, Line, L
                    Tree)
 
 DEPTH = 16  # how deep a set can be
+DEEPEST = 128  # how deep sets are read, so that any text can be; what is deeper is left out
 WORD, STRING = "a name", 'a text in "'
 NOTES = {"rows": "`rows`", "lookup": "`lookup`", "by": "`by`", "from": "`from` on a line", "where": "`where` on a line",
          "->": "a line from a whole set", "=": "a cell with the name of its column"}
@@ -215,6 +216,8 @@ class _Parser:
             if depth == DEPTH:
                 self.faults.append(Fault("depth", self.here.start, self.here.end,
                                          f"a set is inside others up to depth {DEPTH}"))
+            if depth == DEEPEST:
+                raise _Stop
             return self.set(depth + 1)
         if self.is_next("dep"):
             self.needs(3, self.here)
