@@ -10,7 +10,7 @@ from typing import Any
 from clio_tools.csv import read_table, record_text
 from clio_tools.ids.keys import has_nulls
 from clio_tools.ids.nulls import NONE, parts_of
-from clio_tools.ids.target import OUT, PAIRS, RENAMED, Target, written
+from clio_tools.ids.target import OUT, PAIRS, RENAMED, Target, Texts, written
 from clio_tools.json import Elements
 from clio_tools.mapping.text import Set
 from clio_tools.program import Refused
@@ -20,6 +20,26 @@ UNKNOWN = 999  # the rule in the names of nulls that are no numbers: clio has at
 ESCAPES = str.maketrans({"\0": "\1\1", "\1": "\1\2"})  # so that a byte 0 is after each text alone
 LAST = "\1\3"  # what no escaped text has: it becomes a byte that is after all of theirs
 MARK = LAST.encode()
+
+
+class Form:
+    """How the records of a null in nulls.csv are written: those of one rule have the same variables."""
+
+    def __init__(self, variables: Texts) -> None:
+        self.variables, self.places = variables, list(range(len(variables)))
+        if len(variables) > 1:
+            self.places.sort(key=lambda place: int(variables[place][1:]))
+        names = [variables[place].replace("%", "%%") for place in self.places]
+        self.pattern = "".join([f"%s,{name},%s\n" for name in names])
+
+    def records(self, name: str, values: Texts) -> str:
+        """The records of a null with this name, and with these values of the variables."""
+        cells = [name] * (2 * len(values))
+        cells[1::2] = [values[place] for place in self.places]
+        text = self.pattern % tuple(cells)
+        if '"' in text or "\r" in text or text.count(",") > len(cells) or text.count("\n") > len(values):
+            return "".join([record_text([name, self.variables[place], values[place]]) for place in self.places])
+        return text
 
 
 class Files:
@@ -69,23 +89,28 @@ class Files:
 
     def nulls(self) -> Iterator[tuple[bytes, str]]:
         """The records of each null in nulls.csv, with what they are sorted by."""
-        for number, _, pairs in self.target.exported():
-            name, order = self.name(number), self.order(number)
-            if len(pairs) > 1:
-                pairs.sort(key=lambda pair: int(pair[0][1:]))
-            yield sorted_by(order), "".join([record_text([name, variable, value]) for variable, value in pairs])
+        forms: dict[Texts, Form] = {}
+        for number, _, variables, values in self.target.exported():
+            form = forms.get(variables)
+            if form is None:
+                form = forms[variables] = Form(variables)
+            yield sorted_by(self.order(number)), form.records(self.name(number), values)
 
     def rows(self, place: int, table: Set) -> Iterator[tuple[bytes, str]]:
         """The records of a table, with what they are sorted by."""
-        cells = self.target.cells[place]
+        cells, is_written = self.target.cells[place], self.is_written
         nulls = [(column, numbers) for column, numbers in enumerate(cells) if has_nulls(numbers)]
         for number, row in enumerate(self.target.rows(table)):
             orders, loose = row[:], 0
             for column, numbers in nulls:
                 null = numbers[number]
-                if null != NONE:
+                if null == NONE:
+                    continue
+                if is_written[null]:
+                    row[column] = orders[column] = str(self.numbers[null])
+                else:
                     row[column], orders[column] = self.name(null), self.order(null)
-                    loose += not self.is_written[null]
+                    loose += 1
             text = "\0".join(orders) + "\0"
             if "?" in text or text.count("\1") > loose or text.count("\0") > len(orders):
                 orders = [order if one[number] != NONE else order_of_text(order) for order, one in zip(orders, cells)]

@@ -7,6 +7,8 @@ import pathlib
 import sqlite3
 from array import array
 from collections.abc import Iterable, Iterator
+from itertools import groupby
+from operator import itemgetter
 
 from clio_tools.csv import read_table
 from clio_tools.ids.nulls import AGAIN, NONE, NULL, Nulls, json_text, parts_of
@@ -21,7 +23,7 @@ FRESH, RENAMED = "null", "id"  # the first column of nulls.csv as clio writes it
 PAIRS = ["null", "value"]
 
 Term = tuple[int, int, str]  # a null, what it is, and its text
-Pairs = list[list[str]]  # variables and their values
+Texts = tuple[str, ...]
 
 
 class Target:
@@ -54,21 +56,21 @@ class Target:
         if greatest >= len(self.rules):
             raise Refused(f"out/ has the null ?{greatest}.., and out/rules.txt has {len(self.rules)} rules: {AGAIN}")
 
-    def exported(self) -> Iterator[tuple[int, str, Pairs]]:
-        """Each null of nulls.csv: its number, its name, its variables and values."""
-        named: dict[str, list[str]] = {}
-        for null, pairs in groups(read_table(written("nulls"), [FRESH, "variable", "value"])):
+    def exported(self) -> Iterator[tuple[int, str, Texts, Texts]]:
+        """Each null of nulls.csv: its number, its name, its variables and their values."""
+        named: dict[str, Texts] = {}
+        for null, rows in groupby(read_table(written("nulls"), [FRESH, "variable", "value"]), itemgetter(0)):
             parts = parts_of(null)
             number = self.nulls.number(parts) if parts else NONE
             if parts is None or number == NONE:
                 raise Refused(f"out/nulls.csv lists {null[:60]}, which is in no table: {AGAIN}")
-            variables = [name for name, _ in pairs]
+            _, variables, values = zip(*rows)
             if named.setdefault(parts[0], variables) != variables:
                 raise Refused(f"out/nulls.csv has other variables for {null[:60]} than for other nulls of its rule:"
                               f" {AGAIN}")
-            yield number, null, pairs
+            yield number, null, variables, values
 
-    def term_text(self, rule: str, variable: str, pairs: Pairs) -> str:
+    def term_text(self, rule: str, variable: str, pairs: Iterable[Iterable[str]]) -> str:
         """A rule, a variable, and values by the names of the variables that have them, as a text of JSON."""
         head = self.heads.get((rule, variable))
         if head is None:
@@ -78,11 +80,11 @@ class Target:
     def terms(self, wanted: bytearray) -> Iterator[Term]:
         """What each null that is wanted is made of, as a text: its rule, its variable, and the values of nulls.csv."""
         is_listed = bytearray(self.nulls.count)
-        for number, null, pairs in self.exported():
+        for number, null, variables, values in self.exported():
             is_listed[number] = 1
             if wanted[number]:
                 rule, variable, _ = null[1:].split(".")
-                yield number, RULE, self.term_text(rule, variable, pairs)
+                yield number, RULE, self.term_text(rule, variable, zip(variables, values))
         for rule, variable, _, number in self.nulls:
             if wanted[number] and not is_listed[number]:
                 yield number, RULE, self.term_text(rule, variable, [])
@@ -103,20 +105,6 @@ class Target:
         """For each of these the number of the target's null, and what the other one was made of, as a text."""
         for rule, variable, pairs, number in Terms(self.rules, base).of(self.folded(wanted)):
             yield number, FOLDED, self.term_text(str(rule), str(variable), pairs)
-
-
-def groups(rows: Iterable[list[str]]) -> Iterator[tuple[str, Pairs]]:
-    """The rows of one null after the other: its name, and the rest of its rows."""
-    last: str | None = None
-    pairs: Pairs = []
-    for null, variable, value in rows:
-        if null != last:
-            if last is not None:
-                yield last, pairs
-            last, pairs = null, []
-        pairs.append([variable, value])
-    if last is not None:
-        yield last, pairs
 
 
 def names_of(rules: list[str]) -> list[str]:
