@@ -54,6 +54,13 @@ class Links(unittest.TestCase):
         self.assertEqual(lost, [])
 
 
+class Lines(unittest.TestCase):
+    def test_code_and_links_are_on_one_line_as_the_man_page_is_made_line_by_line(self) -> None:
+        broken = [f"{page.name}: {line}" for page in [TOP / "docs/MANUAL.md", *sorted((TOP / "docs/manual").glob("*.md"))]
+                  for line in without_code(page).split("\n") if line.count("`") % 2 or re.search(r"\[[^\]]*$", line)]
+        self.assertEqual(broken, [])
+
+
 class Crates(unittest.TestCase):
     def test_each_crate_has_its_line_and_a_star_exactly_if_the_program_does_not_use_it(self) -> None:
         text = (TOP / "crates/README.md").read_text(encoding="utf-8")
