@@ -56,7 +56,8 @@ class Links(unittest.TestCase):
 
 class Lines(unittest.TestCase):
     def test_code_and_links_are_on_one_line_as_the_man_page_is_made_line_by_line(self) -> None:
-        broken = [f"{page.name}: {line}" for page in [TOP / "docs/MANUAL.md", *sorted((TOP / "docs/manual").glob("*.md"))]
+        pages = [TOP / "docs/MANUAL.md", *sorted((TOP / "docs/manual").glob("*.md"))]
+        broken = [f"{page.name}: {line}" for page in pages
                   for line in without_code(page).split("\n") if line.count("`") % 2 or re.search(r"\[[^\]]*$", line)]
         self.assertEqual(broken, [])
 
