@@ -11,7 +11,7 @@ import sys
 import threading
 import traceback
 from collections.abc import Callable
-from typing import NoReturn
+from typing import NoReturn, TextIO, cast
 
 FINDER = pathlib.Path(__file__).resolve().parent.parent.parent / "dev" / "program"
 WHOLE = "CLIO_TRACEBACK"  # if this is set, a bug is told with all the calls that led to it
@@ -52,6 +52,13 @@ def remark(name: str, text: object) -> None:
     print(harmless(f"{name}: {text}"), file=sys.stderr)
 
 
+class Closed(io.TextIOBase):
+    """Takes the place of a standard output that is closed: what is printed is refused."""
+
+    def write(self, _: str) -> int:
+        raise Refused("standard output is closed")
+
+
 def stop_by_exception() -> None:
     """Has SIGTERM end the tool by an exception, so that it can undo what it began, as a query on a server."""
     def stop(*_: object) -> NoReturn:
@@ -71,6 +78,7 @@ def bug(error: BaseException) -> str:
 
 def run(name: str, work: Callable[[list[str]], None]) -> None:
     """Runs a tool on its words, and ends it if it doesn't succeed: what it refuses ends with a message and status 2."""
+    sys.stdout = sys.stdout or cast(TextIO, Closed())
     for stream, errors in (sys.stdout, "strict"), (sys.stderr, "backslashreplace"):
         if isinstance(stream, io.TextIOWrapper):
             stream.reconfigure(encoding="utf-8", errors=errors, newline="\n")
@@ -95,6 +103,8 @@ def ending(why: Exception) -> tuple[int, str]:
     if isinstance(why, OSError) and why.filename is not None:
         name = os.fsdecode(why.filename) if isinstance(why.filename, (str, bytes)) else why.filename
         return 2, f"{name}: {why.strerror}"
+    if isinstance(why, OSError) and why.strerror:
+        return 2, why.strerror
     if isinstance(why, (Refused, OSError)):
         return 2, str(why)
     if isinstance(why, MemoryError):
