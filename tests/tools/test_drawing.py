@@ -262,6 +262,31 @@ class Saying(Trial):
         self.assertEqual(proposed.split("}\n")[-1], "rows leg from flight;\nline flight.no -> leg.no;\n" + choice +
                          "line port.city -> leg.a;\n" + choice + "line port.city -> leg.b;\n")
 
+    def test_links_are_proposed_as_comments(self) -> None:
+        """A ref that could go several ways, and the rows of a set of nothing but refs."""
+        text = """mapping 1;
+source {
+  set ord { no, bill, ship; ref (bill) -> addr (id); ref (ship) -> addr (id); }
+  set addr { id, town; }
+  set note { ord, addr; ref (ord) -> ord (no); ref (addr) -> addr (id); }
+}
+target {
+  set place { pid, old; key (pid); key (old); }
+  set sale { sid, no, kind, at, home; key (sid); key (no); ref (at) -> place (pid); ref (home) -> place (pid); }
+  set seen { sale, place; ref (sale) -> sale (sid); ref (place) -> place (pid); }
+}
+line addr.id -> place.old;
+line "x" -> sale.kind;
+line ord.no -> sale.no;
+"""
+        self.file("mapping.clio", text)
+        either = "line addr -> sale.{0} by bill; or line addr -> sale.{0} by ship;\n"
+        self.assertEqual(self.printed("clio-rules", "--propose").split("}\n")[-1],
+                         "rows place from addr;\nline addr.id -> place.old;\nrows sale from ord;\n"
+                         "// choose for sale.at of each ord: " + either.format("at") +
+                         "// choose for sale.home of each ord: " + either.format("home") +
+                         'line "x" -> sale.kind;\nline ord.no -> sale.no;\n// rows seen from note;\n')
+
     def test_data_has_places_ways_rules_and_faults(self) -> None:
         self.put_case("flights: two airports")
         text = (self.folder / "drawing.clio").read_text()

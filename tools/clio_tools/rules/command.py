@@ -22,7 +22,8 @@ What is the same already stays as it is.
 of the target, which the notes leave out, and what the notes add.
 
 `--propose` prints a whole drawing: a `rows` for each target set without one, and above each line that could go several
-ways a comment with the ways. If there is no drawing.clio, it takes mapping.clio.
+ways a comment with the ways. Comments also have the lines for refs that could go several ways, and the `rows` of sets
+of nothing but refs. If there is no drawing.clio, it takes mapping.clio.
 
 `--json` prints the sets, the lines with their ways, the rules in words, remarks and faults as data, for a page that
 draws them. All places are bytes of the drawing.
@@ -105,7 +106,7 @@ from .comparing import what_lines_say
 from .data import as_data, faults_as_data
 from .model import Drawing
 from .printed import marked
-from .proposing import proposed
+from .proposed import proposed
 from .sizes import Sizes
 from .whole import Faulty, printed, read, worked_out
 from .writing import write

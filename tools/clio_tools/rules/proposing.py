@@ -104,20 +104,3 @@ def _either(ways: list[Way]) -> str:
     """Ways to choose from."""
     return " or ".join("by " + spelled(way) for way in ways[:6]) + (" or another" if len(ways) > 6 else "")
 
-
-def proposed(drawing: Drawing) -> str:
-    """The drawing with a `rows` for each set that has none, above its first line, and the open choices above lines."""
-    proposing = Proposing(drawing)
-    edits: list[tuple[int, str]] = []
-    content = drawing.tree.content
-    for table in proposing.open:
-        lines = proposing.lines(table)
-        if lines:
-            edits.append((lines[0].start, "".join(row + "\n" for row in proposing.rows(table))))
-    for line in drawing.tree.lines:
-        edits += [(line.start, choice + "\n") for choice in proposing.choices(line)]
-    for at, text in sorted(edits, key=lambda one: -one[0]):
-        start = content.rfind(b"\n", 0, at) + 1
-        at = start if not content[start:at].strip() else at
-        content = content[:at] + text.encode() + content[at:]
-    return content.decode("utf-8")
