@@ -216,6 +216,7 @@ class Explain(unittest.TestCase):
         if ended.returncode not in counts:
             return
         mapping, printed = mapping_of(pathlib.Path("mapping.clio").read_bytes())
+        assert mapping is not None
         found = Clashes(mapping, printed)
         self.assertEqual(bool(found.clashes), ended.returncode == 3)
         counts[ended.returncode] += 1

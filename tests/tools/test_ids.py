@@ -9,6 +9,7 @@ import subprocess
 import sys
 import tempfile
 import unittest
+import unittest.mock
 from collections.abc import Iterator, Mapping
 
 from trial import PROGRAM, TIMES, TOOLS, Trial
@@ -345,8 +346,9 @@ class Grown(unittest.TestCase):
                 os.chdir(before)
 
     def test_random(self) -> None:
-        explain_program.program, kept = lambda: PROGRAM, explain_program.program
-        self.addCleanup(setattr, explain_program, "program", kept)
+        patched = unittest.mock.patch.object(explain_program, "program", lambda: PROGRAM)
+        patched.start()
+        self.addCleanup(patched.stop)
         compared = 0
         for kind, most in KINDS.items():
             for count in range(most * TIMES):
@@ -395,7 +397,7 @@ class Grown(unittest.TestCase):
             variables = {cell.content for cell in mapping.rules[rule].conclusion_cells() if cell.kind == "existential"}
             for place, texts in enumerate(matches.places()):
                 for variable in variables:
-                    value = found.chase.value((rule, variable, place))
+                    value = found.chase.value((rule, int(variable), place))
                     if isinstance(value, tuple):
                         things[printed[rule], printed[:rule].count(printed[rule]), variable,
                                texts] = numbers["?%d.%d.%d" % value]

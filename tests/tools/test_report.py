@@ -124,8 +124,9 @@ class Tags(html.parser.HTMLParser):
 class Reports(Trial):
     def setUp(self) -> None:
         super().setUp()
-        kept, explain_program.program = explain_program.program, lambda: PROGRAM
-        self.addCleanup(setattr, explain_program, "program", kept)
+        patched = unittest.mock.patch.object(explain_program, "program", lambda: PROGRAM)
+        patched.start()
+        self.addCleanup(patched.stop)
 
     @contextlib.contextmanager
     def there(self, folder: str) -> Iterator[None]:
@@ -204,8 +205,8 @@ class Reports(Trial):
         self.assertTrue(one.written <= one.after_keys <= one.different <= one.asked)
         for name, column in zip(one.table.columns, one.columns):
             distinct = f"(SELECT DISTINCT {listed} FROM {base.folded(number, one.table)})"
-            for kind, where in (("nulls", f'"{name}" {NULL}'), ("empty", f"\"{name}\" = ''")):
-                self.assertEqual(column[kind], base.one(f"SELECT count(*) FROM {distinct} WHERE {where}"))
+            for counted, where in (column["nulls"], f'"{name}" {NULL}'), (column["empty"], f"\"{name}\" = ''"):
+                self.assertEqual(counted, base.one(f"SELECT count(*) FROM {distinct} WHERE {where}"))
             self.assertEqual(column["different"], base.one(f'SELECT count(DISTINCT "{name}") FROM {distinct} WHERE '
                                                            f'"{name}" {NULL}'))
             self.assertEqual(column["texts"] + column["empty"] + column["nulls"], one.written)

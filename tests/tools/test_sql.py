@@ -130,7 +130,8 @@ class Random(Trial):
         self.assertEqual(len(found), len(core_of(target)))
         self.assertLessEqual(found, target)
         self.assertIsNotNone(homomorphism(ascending(target), found))
-        onto = lambda value: folded.get(fold.get(value, value), fold.get(value, value))  # noqa: E731
+        def onto(value: Value) -> Value:
+            return folded.get(fold.get(value, value), fold.get(value, value))
         self.assertEqual(image(target, onto), found)
         self.assertEqual(folded | {null: onto(null) for null in fold}, folded)
 
@@ -205,7 +206,7 @@ class Texts(Trial):
             written = {"t": "kxy", "u": "xz", "w": "lr", "nulls": ["null", "variable", "value"],
                        "fold": ["null", "value"]}
             for name, columns in written.items():
-                wanted = sorted(map(tuple, read_table(self.folder / "out" / f"{name}.csv", list(columns))))
+                wanted = sorted(tuple(row) for row in read_table(self.folder / "out" / f"{name}.csv", list(columns)))
                 self.assertEqual(sorted(base.execute(f"SELECT * FROM {name}")), wanted)
 
     def test_clash(self) -> None:
@@ -321,7 +322,7 @@ class SameFile(Trial):
         printed = self.printed("clio-sql", "postgres", "--explain", "--core", "host=nowhere.invalid")
         self.assertIn("CREATE UNLOGGED TABLE", printed)
 
-    def test_another_dialect_has_other_words_alone(self):
+    def test_another_dialect_has_other_words_alone(self) -> None:
         self.file("mapping.clio", "mapping 2; source { set a { k, x; } } target { set t { k, x, y; key (k); } }\n"
                                   "only a.k numeric; line trim(a.k) -> t.k; line a.x -> t.x;")
         words = ["clio-sql", "postgres", "--core", "--explain"]
@@ -341,7 +342,7 @@ class SameFile(Trial):
 class Told(Trial):
     """What a person who waits sees on a terminal."""
 
-    def test_steps_and_time_left(self):
+    def test_steps_and_time_left(self) -> None:
         os.symlink(PROGRAM, self.folder / "clio")
         self.file("mapping.clio", "mapping 1; source { set a { k, x; } set b { k, y; } }\n"
                                   "target { set t { k, x, y; key (k); } }\n"
@@ -365,7 +366,7 @@ class Told(Trial):
         self.assertTrue(all(" left" in line for line in others[:-1]), said)
         self.assertNotIn("left", last)
 
-    def test_time_left_is_in_proportion(self):
+    def test_time_left_is_in_proportion(self) -> None:
         forecast = Forecast()
         self.assertIsNone(forecast.left("anything", 1))
         forecast = Forecast()
@@ -375,7 +376,7 @@ class Told(Trial):
         self.assertAlmostEqual(forecast.left("writing t", 3), 12 / 60 * 10)  # the key of u wasn't asked
         self.assertIsNone(forecast.left("writing nulls", 1))
 
-    def test_rounded(self):
+    def test_rounded(self) -> None:
         self.assertEqual([rounded(seconds) for seconds in (.2, 99, 101, 5999, 6001)],
                          ["0 s", "99 s", "2 min", "100 min", "2 h"])
 
