@@ -9,6 +9,8 @@ import signal
 import sys
 import tempfile
 import traceback
+from collections.abc import Sequence
+from typing import IO
 
 for module in "draft.postgres", "draft.sqlite", "tables.bases", "sql.command":
     importlib.import_module(f"clio_tools.{module}")
@@ -16,7 +18,7 @@ for module in "draft.postgres", "draft.sqlite", "tables.bases", "sql.command":
 TOOLS = pathlib.Path(__file__).resolve().parent.parent.parent / "tools"
 
 
-def ended(name, words, folder, text=""):
+def ended(name: str, words: Sequence[str], folder: pathlib.Path, text: str = "") -> tuple[int, str, str]:
     """How a tool ends: its status, what it prints and what it says."""
     with tempfile.TemporaryFile() as given, tempfile.TemporaryFile() as printed, tempfile.TemporaryFile() as said:
         given.write(text.encode())
@@ -30,20 +32,21 @@ def ended(name, words, folder, text=""):
         return status, printed.read().decode(), said.read().decode()
 
 
-def run_here(name, words, folder, files):
+def run_here(name: str, words: Sequence[str], folder: pathlib.Path, files: Sequence[IO[bytes]]) -> int:
     """Runs a tool in this process, which is there for it alone; answers its status."""
     try:
         signal.signal(signal.SIGTERM, signal.SIG_DFL)
         os.chdir(folder)
         for number, file in enumerate(files):
             os.dup2(file.fileno(), number)
-        sys.stdin, sys.stdout, sys.stderr = open(0, encoding="utf-8"), open(1, "w", encoding="utf-8"), open(2, "w", encoding="utf-8")
+        sys.stdin = open(0, encoding="utf-8")
+        sys.stdout, sys.stderr = open(1, "w", encoding="utf-8"), open(2, "w", encoding="utf-8")
         sys.argv = [name, *words]
         try:
             runpy.run_path(str(TOOLS / name), run_name="__main__")
             status = 0
         except SystemExit as end:
-            status = end.code or 0
+            status = end.code if isinstance(end.code, int) else int(end.code is not None)
         sys.stdout.flush()
         sys.stderr.flush()
         return status
