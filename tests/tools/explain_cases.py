@@ -241,7 +241,7 @@ TRAPS = [
     Case("rows of nulls in core mode",
          {"mapping.clio": LINKED, "sale.csv": "id,buyer\n1,ann\n", "ware.csv": "sku\n7\n"}, 0,
          ["1 of 2 rows of orders holds nothing but nulls",
-          "if that isn't meant, make refs to orders optional (mapping 2), or write rules"], ("exchange", "--core")),
+          "if that isn't meant, make refs to orders optional (mapping 2), or say in a drawing"], ("exchange", "--core")),
     Case("an open quote in the last field", {"mapping.clio": EMP, "emp.csv": "name,dept\na,\"b\nc,d\n"}, 0,
          ["a quote of emp.csv is never closed"]),
     Case("nothing to say", {"mapping.clio": EMP, "emp.csv": "name,dept\na,b\n"}, 0, []),

@@ -27,7 +27,8 @@ CURES = {
     "columns": "split the set in two that share a key, or leave columns out of the file",
     "depth": "flatten the document",
     "lines": "split the mapping, or write rules: a rule fills a whole row",
-    "variants": "make refs optional only where rows without a match are wanted, or write rules in the place of lines",
+    "variants": "make refs optional only where rows without a match are wanted, or make a drawing of it, which has a"
+                " rule for each ref and not for each set of refs (man clio-rules)",
     "occurrences": "leave out refs that no line needs, or write rules in the place of lines",
     "ways": "leave out one of these refs, if no line needs it, or draw fewer lines between the two sets, or write rules"
             " in their place",

@@ -235,7 +235,7 @@ class Traps:
                 yield Warned("nulls", table.name, [
                     f"{count:,} of {len(rows):,} rows of {table.name} {'holds' if count == 1 else 'hold'} nothing but"
                     f" nulls, since {fill} no column there: if that isn't meant, {core}make refs to {table.name}"
-                    " optional (mapping 2), or write rules in place of lines"])
+                    " optional (mapping 2), or say in a drawing what its rows come from (man clio-rules)"])
 
     def dropped(self, source: Source) -> Iterator[Warned]:
         """Refs of the source that drop rows, and refs that no line uses."""
