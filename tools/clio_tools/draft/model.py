@@ -23,6 +23,8 @@ class Column:
     may_be_null: bool = False
     why_not: str = ""
     word: str = ""
+    type: str = ""  # as the database names it
+    is_numbered: bool = False  # the database gives it numbers
 
 
 @dataclasses.dataclass

@@ -10,9 +10,13 @@ SETTINGS = {"datestyle": "ISO", "intervalstyle": "postgres", "timezone": "UTC", 
 ONE_STATE = "BEGIN ISOLATION LEVEL REPEATABLE READ READ ONLY"
 
 TABLES = """SELECT c.oid, c.relname FROM pg_catalog.pg_class c JOIN pg_catalog.pg_namespace n ON n.oid = c.relnamespace
- WHERE n.nspname = %s AND c.relkind IN ('r', 'p', 'f') AND NOT c.relispartition ORDER BY c.relname"""
-COLUMNS = """SELECT a.attrelid, a.attnum, a.attname, a.attnotnull, pg_catalog.format_type(a.atttypid, NULL)
+ WHERE n.nspname = %s AND c.relkind IN ('r', 'p', 'f'{views}) AND NOT c.relispartition
+ ORDER BY c.relkind IN ('v', 'm'), c.relname"""
+VIEWS = ", 'v', 'm'"
+COLUMNS = """SELECT a.attrelid, a.attnum, a.attname, a.attnotnull, pg_catalog.format_type(a.atttypid, NULL),
+ a.attidentity <> '' OR coalesce(pg_catalog.pg_get_expr(d.adbin, d.adrelid), '') LIKE 'nextval(%%'
  FROM pg_catalog.pg_attribute a
+ LEFT JOIN pg_catalog.pg_attrdef d ON d.adrelid = a.attrelid AND d.adnum = a.attnum AND a.attgenerated = ''
  WHERE a.attnum > 0 AND NOT a.attisdropped AND a.attrelid = ANY (%s::oid[]) ORDER BY a.attrelid, a.attnum"""
 KEYS = """SELECT i.indrelid, i.indkey, i.indnkeyatts FROM pg_catalog.pg_index i
  WHERE i.indisunique AND i.indisvalid AND i.indpred IS NULL AND i.indexprs IS NULL AND i.indrelid = ANY (%s::oid[])
@@ -25,22 +29,23 @@ REFS = """SELECT r.conrelid, r.conkey, r.confrelid, r.confkey, r.confrelid::regc
 class Base:
     """A schema, read in one transaction for the catalog and one for the rows."""
 
-    def __init__(self, place: str, schema: str) -> None:
+    def __init__(self, place: str, schema: str, views: bool = False) -> None:
+        """A schema; its views are tables too if that is asked for."""
         self.session = Session(place, **SETTINGS)
         self.session.run("SET search_path = ''")
-        self.schema = schema
+        self.schema, self.query = schema, TABLES.replace("{views}", VIEWS if views else "")
 
     def tables(self) -> list[Table]:
         """The tables, in the order of their names."""
         with self.session.transaction(ONE_STATE):
-            named = {oid: Table(name, [], is_of_catalog=True) for oid, name in self._all(TABLES, self.schema)}
+            named = {oid: Table(name, [], is_of_catalog=True) for oid, name in self._all(self.query, self.schema)}
             if not named:
                 raise Refused(f"there is no table in the schema {self.schema}, or no such schema")
             oids = "{" + ",".join(named) + "}"
             numbers: dict[tuple[str, str], str] = {}
-            for oid, number, name, filled, kind in self._all(COLUMNS, oids):
+            for oid, number, name, filled, kind, is_numbered in self._all(COLUMNS, oids):
                 why_not = "it is of type bytea, which is no text" if kind == "bytea" else ""
-                named[oid].columns.append(Column(name, may_be_null=filled == "f", why_not=why_not))
+                named[oid].columns.append(Column(name, filled == "f", why_not, "", kind, is_numbered == "t"))
                 numbers[oid, number] = name
             for oid, key, count in self._all(KEYS, oids):
                 named[oid].keys.append([numbers[oid, number] for number in key.split(" ")[: int(count)]])

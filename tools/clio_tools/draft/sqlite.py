@@ -18,10 +18,11 @@ def quoted(name: str) -> str:
 class Base:
     """An SQLite file, read in one transaction."""
 
-    def __init__(self, path: str) -> None:
+    def __init__(self, path: str, views: bool = False) -> None:
+        """A file; its views are tables too if that is asked for."""
         if not pathlib.Path(path).is_file():
             raise Refused(f"{path} is no file")
-        self.path = path
+        self.path, self.kinds = path, "'table', 'view'" if views else "'table'"
         address = f"file:{urllib.parse.quote(os.fsencode(pathlib.Path(path).resolve()))}?mode=ro"
         try:
             self.base = sqlite3.connect(address, uri=True, isolation_level=None)
@@ -37,8 +38,8 @@ class Base:
             raise Refused(f"{self.path}: {error}") from None
 
     def tables(self) -> list[Table]:
-        names = self.ask("SELECT name, sql FROM sqlite_master WHERE type = 'table' AND name NOT LIKE 'sqlite\\_%'"
-                         " ESCAPE '\\' ORDER BY rowid").fetchall()
+        names = self.ask(f"SELECT name, sql FROM sqlite_master WHERE type IN ({self.kinds})"
+                         " AND name NOT LIKE 'sqlite\\_%' ESCAPE '\\' ORDER BY type, rowid").fetchall()
         found = {name: self._table(name, sql or "") for name, sql in names if not self._is_shadow(name)}
         for table in found.values():
             if not table.why_not:
@@ -57,10 +58,13 @@ class Base:
         if sql.upper().startswith("CREATE VIRTUAL"):
             return Table(name, [], why_not="it is a virtual table: read it by a table of its own")
         columns = []
-        for _, column, kind, filled, _, place, hidden in self.ask(f"PRAGMA table_xinfo({quoted(name)})"):
+        listed = self.ask(f"PRAGMA table_xinfo({quoted(name)})").fetchall()
+        is_alone = sum(1 for row in listed if row[5]) == 1
+        for _, column, kind, filled, _, place, hidden in listed:
             if hidden != 1:
                 why_not = "it is a BLOB, which is no text" if "BLOB" in kind.upper() else ""
-                columns.append(Column(column, may_be_null=not filled and not place, why_not=why_not))
+                is_numbered = is_alone and bool(place) and kind.upper() == "INTEGER"
+                columns.append(Column(column, not filled and not place, why_not, "", kind, is_numbered))
         return Table(name, columns, is_of_catalog=True)
 
     def _add_keys(self, table: Table) -> None:

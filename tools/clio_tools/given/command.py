@@ -3,17 +3,30 @@
     clio-given sqlite FILE [OPTION ..]
     clio-given postgres CONNINFO [SCHEMA] [OPTION ..]
 
-For each set of the target of mapping.clio it reads the table of this name, and writes its columns, in the mapping's
-order, into `given/<set>.csv`. Other tables and columns are left out. A name that is no word of a mapping text is taken
-as clio-draft would write it.
+For each set of the target of mapping.clio it reads the table, or the view, of this name, and writes its columns, in the
+mapping's order, into `given/<set>.csv`. Other tables and columns are left out. A name that is no word of a mapping text
+is taken as clio-draft would write it.
 
 Each NULL becomes a null of its own, `?0.0.0`, `?0.0.1` and so on: what is not known there, and nothing is said of it.
 All other values are texts, as clio-draft writes them (numbers as their digits), with one `?` more in front if one
 begins with `?`.
 
-OPTIONS `--surrogate SET.COLUMN` says that the values of this column are made up, as numbers from a sequence are: each
-becomes a null, the same one wherever it is in the column, and in the columns that a ref of the mapping links to it.
-It can be given several times.
+OPTIONS
+`--surrogate SET.COLUMN` says that the values of this column are made up, as numbers from a sequence are: each becomes a
+null, the same one wherever it is in the column, and in the columns that a ref of the mapping, or a foreign key of the
+database, also one to the same table, links to it. `--surrogate SET.COLUMN=SET.COLUMN` says that the first column has
+the values of the second, as a view has no foreign keys. It can be given several times.
+
+`--identity` says it of each column to which the database gives numbers (an identity, a sequence; in SQLite an INTEGER
+PRIMARY KEY) and that no line and no rule fills.
+
+`--null-is empty` takes NULL for the empty text, `--null-is SET.COLUMN=empty` in one column; `--null-is SET.COLUMN=null`
+keeps it a null there. Made-up values stay nulls. `--null TEXT` takes NULL for a text, as clio-draft --null writes it.
+
+`--types FILE` names columns that are no texts in the database, as clio-tables reads them: `sale.price numeric`;
+`--types catalog` takes the types of the database's columns. A number, a boolean, a date or a timestamp is then written
+with the text that `out`, where `clio exchange` wrote, has for the same value in this column, as `10.9` for 10.90, `1`
+for true, or `2026-03-01T10:00:00Z`; one that `out` doesn't have is written as the database prints it.
 
 `--mapping FILE` is another mapping text than mapping.clio, and `--into FOLDER` another folder than given.
 
@@ -22,20 +35,26 @@ what `psql -d` takes, and SCHEMA is public if it is left out.
 """
 import argparse
 import pathlib
-from collections.abc import Iterable
+from collections.abc import Iterable, Iterator
 
 from clio_tools.csv import write_table
 from clio_tools.draft import postgres, sqlite
 from clio_tools.draft.data import Rows
-from clio_tools.draft.model import Side, Table, find_set
+from clio_tools.draft.model import Side, Table
 from clio_tools.draft.names import shown
+from clio_tools.given.columns import Domains, NullIs, linked, numbered
+from clio_tools.given.values import Nulls, Texts, kind_of
+from clio_tools.mapping.meaning import read_mapping
 from clio_tools.mapping.text import Set, read_sets
 from clio_tools.program import Refused, run
 from clio_tools.safe_files import check_folder
-from clio_tools.sql_types import Column
+from clio_tools.sql_types import read_types
+
+CATALOG = "catalog"
 
 
 def words_of(words: list[str]) -> argparse.Namespace:
+    """The words of the command."""
     parser = argparse.ArgumentParser(prog="clio-given", description="Writes the target's tables out of a database, as"
                                                                     " clio judge reads them.",
                                      epilog="The manual is man clio-given.")
@@ -44,56 +63,16 @@ def words_of(words: list[str]) -> argparse.Namespace:
     parser.add_argument("schema", nargs="?", default="public", metavar="SCHEMA")
     parser.add_argument("--surrogate", action="append", default=[], metavar="SET.COLUMN",
                         help="a column whose values become nulls")
+    parser.add_argument("--identity", action="store_true", help="so do those of columns that the database numbers")
+    parser.add_argument("--null-is", action="append", default=[], metavar="[SET.COLUMN=]empty|null")
+    parser.add_argument("--null", metavar="TEXT", help="the text that NULL is")
+    parser.add_argument("--types", metavar=f"FILE|{CATALOG}", help="columns that are no texts in the database")
     parser.add_argument("--mapping", default="mapping.clio", metavar="FILE")
     parser.add_argument("--into", metavar="FOLDER")
     given = parser.parse_args(words)
     if given.kind == "sqlite" and given.schema != "public":
         parser.error("an SQLite file has no schema")
     return given
-
-
-class Domains:
-    """The columns that hold the same made-up values: for each its domain's name, and none for all others."""
-
-    def __init__(self, sets: list[Set], surrogates: list[str]) -> None:
-        named = {one.name: one for one in sets}
-        self.of: dict[Column, str] = {}
-        for text in surrogates:
-            name, _, column = text.partition(".")
-            if name not in named or column not in named[name].columns:
-                raise Refused(f"--surrogate {text}: the target has no such column")
-            self.of.setdefault((name, column), text)
-        pairs = [((one.name, own), (other, referred)) for one in sets
-                 for columns, other, listed in one.links + one.optional_refs
-                 for own, referred in zip(columns, listed)]
-        while joined := [(one, other) for one, other in pairs if (one in self.of) != (other in self.of)]:
-            for one, other in joined:
-                domain = self.of.get(one) or self.of[other]
-                self.of.setdefault(one, domain)
-                self.of.setdefault(other, domain)
-
-
-class Nulls:
-    """Names for nulls: a new one for each NULL, and one for each made-up value."""
-
-    def __init__(self) -> None:
-        self.count = 0
-        self.named: dict[tuple[str, str], str] = {}
-
-    def fresh(self) -> str:
-        """A name that no other null has."""
-        self.count += 1
-        return f"?0.0.{self.count - 1}"
-
-    def value(self, cell: str | None, domain: str | None) -> str:
-        """The value text of a cell."""
-        if cell is None:
-            return self.fresh()
-        if domain is not None:
-            if (domain, cell) not in self.named:
-                self.named[domain, cell] = self.fresh()
-            return self.named[domain, cell]
-        return "?" + cell if cell.startswith("?") else cell
 
 
 def target_of(path: str) -> list[Set]:
@@ -114,29 +93,85 @@ def places_of(table: Table, one: Set) -> list[int]:
     return [names.index(column) for column in one.columns]
 
 
+def tables_of(base: sqlite.Base | postgres.Base, sets: list[Set]) -> list[Table]:
+    """The table of each set."""
+    found = base.tables()
+    Side("target", found, drawing=True)
+    named = {table.word: table for table in reversed(found)}
+    for one in sets:
+        if one.name not in named or not named[one.name].columns:
+            there = ", ".join(table.word for table in found)[:300] or "there is no table"
+            raise Refused(f"the mapping has a set {one.name}, and nothing here becomes it: {there}")
+    return [named[one.name] for one in sets]
+
+
+def kinds_of(given: argparse.Namespace, sets: list[Set], tables: list[Table]) -> list[dict[str, str]]:
+    """For each set the kinds of its columns, as far as they are asked for."""
+    if given.types is None:
+        return [{} for _ in sets]
+    if given.types == CATALOG:
+        return [{column.word: kind_of(column.type) for column in table.said if column.word in one.columns}
+                for one, table in zip(sets, tables)]
+    types = read_types(given.types, sets)
+    return [{column: kind_of(types[one.name, column]) for column in one.columns} for one in sets]
+
+
 def work(words: list[str]) -> None:
+    """Writes the tables."""
     given = words_of(words)
     sets = target_of(given.mapping)
-    domains, nulls = Domains(sets, given.surrogate), Nulls()
     base: sqlite.Base | postgres.Base
-    base = sqlite.Base(given.place) if given.kind == "sqlite" else postgres.Base(given.place, given.schema)
-    side = Side("target", base.tables())
-    tables = [find_set(side, one.name) for one in sets]
+    base = (sqlite.Base(given.place, True) if given.kind == "sqlite"
+            else postgres.Base(given.place, given.schema, True))
+    tables = tables_of(base, sets)
+    pairs = linked(sets, tables)
+    if given.identity:
+        given.surrogate += numbered(sets, tables, read_mapping(pathlib.Path(given.mapping).read_bytes()), pairs)
+    domains, null_is = Domains(sets, given.surrogate, pairs), NullIs(sets, given.null_is, given.null)
     places = [places_of(table, one) for table, one in zip(tables, sets)]
+    texts = [Texts(pathlib.Path("out"), one, kinds) for one, kinds in zip(sets, kinds_of(given, sets, tables))]
     folder = pathlib.Path(given.into or "given")
     if not given.into:
         check_folder(folder)
     folder.mkdir(parents=True, exist_ok=True)
-    pairs: Iterable[tuple[Table, Rows]]
+    read: Iterable[tuple[Table, Rows]]
     if isinstance(base, postgres.Base):
-        pairs = base.all_rows(tables)
+        read = base.all_rows(tables)
     else:
-        pairs = ((table, base.rows(table)) for table in tables)
-    for one, listed, (_, rows) in zip(sets, places, pairs):
-        of = [(place, domains.of.get((one.name, column))) for place, column in zip(listed, one.columns)]
-        written = ([nulls.value(row[place], domain) for place, domain in of] for row in rows)
-        write_table(folder / f"{one.name}.csv", one.columns, written)
+        read = ((table, base.rows(table)) for table in tables)
+    writing = Writing(domains, null_is)
+    for one, listed, own, (_, rows) in zip(sets, places, texts, read):
+        write_table(folder / f"{one.name}.csv", one.columns, writing.rows(one, listed, own, rows))
+
+
+class Writing:
+    """The values of a database as they are written."""
+
+    def __init__(self, domains: Domains, null_is: NullIs) -> None:
+        self.domains, self.null_is, self.nulls = domains, null_is, Nulls()
+
+    def rows(self, one: Set, places: list[int], texts: Texts, rows: Rows) -> Iterator[list[str]]:
+        """The rows of a set."""
+        domains = [self.domains.of.get((one.name, column)) for column in one.columns]
+        null_is = [self.null_is.text((one.name, column), domain is not None)
+                   for column, domain in zip(one.columns, domains)]
+        columns = list(zip(one.columns, places, domains, null_is))
+        for row in rows:
+            yield [self.value(texts, column, row[place], domain, null) for column, place, domain, null in columns]
+
+    def value(self, texts: Texts, column: str, cell: str | None, domain: str | None, null: str | None) -> str:
+        """The value text of a cell."""
+        if cell is None:
+            if null is None:
+                return self.nulls.fresh()
+            cell = null
+        elif domain is not None:
+            return self.nulls.of(domain, cell)
+        else:
+            cell = texts.text(column, cell)
+        return "?" + cell if cell.startswith("?") else cell
 
 
 def main() -> None:
+    """Runs the tool on the words of its command line."""
     run("clio-given", work)
