@@ -58,7 +58,7 @@ class Side:
 
     def arcs(self) -> list[str]:
         """An arrow from each replaced null to its value, where both are in one column of a table."""
-        made = []
+        made: list[str] = []
         for name, rows in self.tables.items():
             for column in range(len(rows[0])):
                 cells = [row[column] for row in rows]

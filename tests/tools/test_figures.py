@@ -67,7 +67,8 @@ class Crates(unittest.TestCase):
         text = (TOP / "crates/README.md").read_text(encoding="utf-8")
         names = [name for line in LISTED.findall(text) for name in re.findall(r"`(\w+)`((?:\\\*)?)", line)]
         used = uses()
-        needed, waiting = set(), ["clio"]
+        needed: set[str] = set()
+        waiting = ["clio"]
         while waiting:
             name = waiting.pop()
             if name in used and name not in needed:
