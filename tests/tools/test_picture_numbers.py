@@ -1,4 +1,7 @@
 """clio-picture: a hand-written rule has the number that clio gives it."""
+import re
+
+from clio_tools.picture.svg import LETTER
 from trial import Trial
 
 MAPPING = """mapping 1;
@@ -22,7 +25,10 @@ class Numbers(Trial):
         drawn = self.printed("clio-picture")
         self.assertIn(">rule 1<", drawn)
         self.assertNotIn(">rule 0<", drawn)
-        self.assertIn(">a rule that clio leaves out, since others imply it<", drawn)
+        title = "left out, since other rules imply it"
+        starts = [float(found[1]) for found in re.finditer(rf'<text x="([0-9]+)"[^>]*>(?:rule 1|{title})<', drawn)]
+        self.assertEqual(len(starts), 2)
+        self.assertGreater(starts[1], starts[0] + len(title) * LETTER)
 
     def test_refused(self) -> None:
         """If clio refuses the rules by a limit, they have no numbers."""

@@ -72,8 +72,8 @@ class Figure:
         return max(box.width() for box in self.left), max(box.width() for box in self.right)
 
     def width(self) -> float:
-        """As wide as its sides and its labels need."""
-        return sum(self.sides()) + self.middle + 60
+        """As wide as its title, its sides and its labels need."""
+        return max(sum(self.sides()) + self.middle, len(self.title) * LETTER) + 60
 
     def height(self) -> float:
         """As high as its higher side."""

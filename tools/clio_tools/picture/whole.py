@@ -71,7 +71,7 @@ class Picture:
         mapping = self.mapping
         if self.shown is None:
             return ["a hand-written rule" for _ in mapping.rules]
-        return ["a rule that clio leaves out, since others imply it" if number is None else f"rule {number}"
+        return ["left out, since other rules imply it" if number is None else f"rule {number}"
                 for number in numbers_of(mapping.rules, mapping.source, mapping.target, self.shown)]
 
     def rules(self, parts: list[str], y: float, width: float) -> tuple[float, float]:
