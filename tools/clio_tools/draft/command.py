@@ -95,7 +95,8 @@ def words_of(words: list[str]) -> argparse.Namespace:
                              help="write NULL as this text, which nothing else may be, and not as the empty one")
     given = parser.parse_args(words)
     if given.side == "target" and given.data and not (given.lines_from and given.kind != "json"):
-        parser.error("--data is for the source: of the target no data is read, but with --lines-from the rows of tables")
+        parser.error("--data is for the source: of the target no data is read, but with --lines-from the rows of"
+                     " tables")
     if given.lines_from and (given.side != "target" or not given.drawing):
         parser.error("--lines-from is for the target of a drawing: --side target --drawing")
     if given.lines_from and given.mapping:

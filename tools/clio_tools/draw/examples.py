@@ -1,5 +1,6 @@
-"""Chosen examples in place of first rows: for each rule a match, for each key or dependency two rows that it made agree,
-for each optional ref of the source a row with and one without a partner, for each source set a row that is not used."""
+"""Chosen examples in place of first rows: for each rule a match, for each key or dependency two rows that it made
+agree, for each optional ref of the source a row with and one without a partner, for each source set a row that is not
+used."""
 from collections.abc import Iterator
 from itertools import islice
 

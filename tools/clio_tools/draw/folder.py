@@ -113,7 +113,8 @@ class Folder:
         paths = sorted(drafted.iterdir()) if drafted.is_dir() else []
         there = [path.name for path in paths if os.path.lexists(self.path / path.name)]
         if there:
-            raise CannotSave(f"{', '.join(there[:8])} {'is' if len(there) == 1 else 'are'} there already, and not replaced")
+            raise CannotSave(f"{', '.join(there[:8])} {'is' if len(there) == 1 else 'are'} there already, and not"
+                             " replaced")
         for path in paths:
             with open(path, "rb") as source, open(self.path / path.name, "xb") as file:
                 shutil.copyfileobj(source, file)

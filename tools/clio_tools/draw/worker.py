@@ -39,7 +39,8 @@ class Worker:
         self.live = Live(self.folder, self.runner)
         self.jobs: dict[str, Callable[..., Data]] = {
             "live": self.live.run, "more": self.live.more, "warnings": self.live.warnings, "why": self.live.why,
-            "groups": self.live.groups, "sources": self.live.sources, "examples": self.live.examples, "forward": self.live.forward, "arrange": self.arrange,
+            "groups": self.live.groups, "sources": self.live.sources, "examples": self.live.examples,
+            "forward": self.live.forward, "arrange": self.arrange,
             "proposals": self.proposals, "ways": self.ways,
             "draft": self.draft}
 

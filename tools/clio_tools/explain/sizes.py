@@ -174,8 +174,8 @@ def occurrences(text: MappingText, number: int) -> Iterator[str]:
                     continue
             except TooLarge:
                 pass
-            yield (f"this hand-written rule has {len(rule.premise)} sets on its left, and with what refs add too many on"
-                   " one side:")
+            yield (f"this hand-written rule has {len(rule.premise)} sets on its left, and with what refs add too many"
+                   " on one side:")
             first = text.rules[place].premise[0].name
             yield from with_caret(text.content, first.start, len(first.text))
             return

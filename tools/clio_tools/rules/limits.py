@@ -61,8 +61,8 @@ def _columns(drawing: Drawing, made: Printed) -> Optional[Fault]:
         table, name = drawing.target_of(rows), drawing.source_of(rows).name
         if len(table.columns) > COLUMNS:
             word = next(one for one in drawing.tree.lookups if one.text == name)
-            return Fault("meaning", word.start, word.end, f"{table.name} has {len(table.columns)} columns, one for each "
-                         f"value that links take from {name}, and clio takes {COLUMNS}: leave {name} out of `lookup`")
+            return Fault("meaning", word.start, word.end, f"{table.name} has {len(table.columns)} columns, one for each"
+                         f" value that links take from {name}, and clio takes {COLUMNS}: leave {name} out of `lookup`")
     return None
 
 
@@ -72,12 +72,12 @@ def _occurrences(drawing: Drawing, made: Printed) -> Optional[Fault]:
         left, right = 1 + len(one.need.ways) + len(one.need.tests), len(one.conclusion)
         if max(left, right) > OCCURRENCES:
             what = f"goes along {left - 1} links and tests" if left > OCCURRENCES else f"makes {right} rows at once"
-            return _fault(one.rows.note, drawing, f"a rule of these rows {what}, and clio takes {OCCURRENCES} sets on a "
-                          f"side of a rule: leave some to another `rows` of {drawing.target_of(one.rows).name}")
+            return _fault(one.rows.note, drawing, f"a rule of these rows {what}, and clio takes {OCCURRENCES} sets on a"
+                          f" side of a rule: leave some to another `rows` of {drawing.target_of(one.rows).name}")
     return None
 
 
 def _bytes(drawing: Drawing, made: Printed) -> Optional[Fault]:
     """Too long a text."""
-    return _fault(None, drawing, f"the printed mapping has {len(made.text.encode()):,} bytes, and clio takes {BYTES:,}: "
-                  "make two drawings")
+    return _fault(None, drawing, f"the printed mapping has {len(made.text.encode()):,} bytes, and clio takes {BYTES:,}:"
+                  " make two drawings")
