@@ -17,7 +17,7 @@ PATH = shutil.which("chromium") or shutil.which("chromium-browser") or shutil.wh
 OPTIONS = ["--headless=new", "--no-sandbox", "--disable-gpu", "--remote-debugging-pipe", "--no-first-run",
            "--disable-extensions", "--disable-background-networking", "--force-prefers-reduced-motion"]
 KEYS = {"Enter": 13, "Escape": 27, "Delete": 46, "ArrowDown": 40, "ArrowUp": 38, "ArrowLeft": 37, "ArrowRight": 39,
-        "Tab": 9, "Home": 36, "End": 35}
+        "Tab": 9, "Home": 36, "End": 35, "ContextMenu": 93}
 MIDDLE = """(() => { const e = document.querySelector(%s); if (!e) return null; e.scrollIntoViewIfNeeded?.();
 const r = e.getBoundingClientRect(); return [r.x + r.width / 2, r.y + r.height / 2] })()"""
 

@@ -127,6 +127,13 @@ class Drawing(Page):
         self.browser.until("!clioDraw.model.text.includes('line emp.dept')")
         self.browser.key("s", modifiers=2)
         self.browser.until("document.getElementById('status').textContent === 'saved'")
+        self.browser.key("Escape")
+        self.browser.js("document.querySelector('#target [data-key=\"team.label\"]').focus()")
+        self.browser.key("Delete")
+        self.browser.until("!clioDraw.model.text.includes('line dept.dname')")
+        self.browser.js("document.querySelector('#target [data-key=\"team\"]').focus()")
+        self.browser.key("ContextMenu")
+        self.browser.until("document.querySelector('#inspector [aria-label=Columns]')")
 
     def test_names_for_screen_readers(self) -> None:
         self.open(draw_trial.copy_of("teams"))

@@ -1,11 +1,13 @@
-// The lines between both sides. A line is drawn if one of its ends is in sight; an end that is scrolled away is at the rim, an end in a collapsed set at the set.
-import { byId, s } from "./dom.js";
-import { lineText, model } from "./model.js";
-import { keyOf, sides } from "./trees.js";
+// The lines between both sides. A line is drawn if one of its ends is in sight; an end that is scrolled away is at the
+// rim, an end in a collapsed set at the set.
+import {byId, s} from "./dom.js";
+import {lineText, model} from "./model.js";
+import {keyOf, sides} from "./trees.js";
 
 const COLOURS = 8;
 
-// Where a column's end is: its height in the gap, whether it is in sight, and whether its set stands for it. Nothing if it is filtered out.
+// Where a column's end is: its height in the gap, whether it is in sight, and whether its set stands for it. Nothing if
+// it is filtered out.
 function end(side, set, column, frame) {
   const one = sides[side], found = one.at.get(keyOf(set, column));
   if (!found) return null;
@@ -16,29 +18,31 @@ function end(side, set, column, frame) {
   const box = frame[side];
   const y = box.top + row.offsetTop - box.scroll + row.offsetHeight / 2;
   const top = box.top + 2, low = box.top + box.height - 2;
-  return { y: Math.max(top, Math.min(low, y)), seen: y >= top && y <= low, isSet };
+  return {y: Math.max(top, Math.min(low, y)), seen: y >= top && y <= low, isSet};
 }
 
 function frameOf() {
-  const gap = byId("gap").getBoundingClientRect(), frame = { width: gap.width, height: gap.height };
+  const gap = byId("gap").getBoundingClientRect(), frame = {width: gap.width, height: gap.height};
   for (const side of ["source", "target"]) {
     const box = byId(side), rect = box.getBoundingClientRect();
-    frame[side] = { top: rect.top - gap.top, height: rect.height, scroll: box.scrollTop };
+    frame[side] = {top: rect.top - gap.top, height: rect.height, scroll: box.scrollTop};
   }
   return frame;
 }
 
-const curve = (from, to, width) => `M0 ${from.toFixed(1)}C${(width * .45).toFixed(0)} ${from.toFixed(1)} ${(width * .55).toFixed(0)} ${to.toFixed(1)} ${width.toFixed(0)} ${to.toFixed(1)}`;
+const curve = (from, to, width) => `M0 ${from.toFixed(1)}C${(width * .45).toFixed(0)} ${from.toFixed(1)} ${
+    (width * .55).toFixed(0)} ${to.toFixed(1)} ${width.toFixed(0)} ${to.toFixed(1)}`;
 
 function path(from, to, frame, kind, title, colour) {
   const way = curve(from.y, to.y, frame.width);
-  const group = s("g", { class: `${kind}${from.seen && to.seen ? "" : " away"}${from.isSet || to.isSet ? " set-end" : ""}` });
-  group.append(s("title", {}, title), s("path", { d: way, class: "wide" }), s("path", { d: way, class: "thin" }));
+  const group =
+      s("g", {class: `${kind}${from.seen && to.seen ? "" : " away"}${from.isSet || to.isSet ? " set-end" : ""}`});
+  group.append(s("title", {}, title), s("path", {d: way, class: "wide"}), s("path", {d: way, class: "thin"}));
   if (colour !== undefined) group.style.color = `var(--c${colour % COLOURS})`;
   return group;
 }
 
-let counts = { drawn: 0, of: 0 };
+let counts = {drawn: 0, of: 0};
 export const drawnCounts = () => counts;
 
 export function drawCurves() {
@@ -58,9 +62,15 @@ export function drawCurves() {
     if (!to) return;
     const colour = number(line.target[0]);
     let any = false;
-    if (line.columns.length === 1 && index !== chosen && !model.because.has(index)) { // all lines between two collapsed sets are one
-      const one = sides.source.at.get(keyOf(...line.columns[0]))?.set, other = sides.target.at.get(keyOf(...line.target))?.set;
-      if (one !== undefined && other !== undefined) { const pair = `${one}>${other}`; bundles.set(pair, [...(bundles.get(pair) ?? []), line]); return; }
+    if (line.columns.length === 1 && index !== chosen &&
+        !model.because.has(index)) {  // all lines between two collapsed sets are one
+      const one = sides.source.at.get(keyOf(...line.columns[0]))?.set,
+            other = sides.target.at.get(keyOf(...line.target))?.set;
+      if (one !== undefined && other !== undefined) {
+        const pair = `${one}>${other}`;
+        bundles.set(pair, [...(bundles.get(pair) ?? []), line]);
+        return;
+      }
     }
     for (const column of line.columns) {
       const from = end("source", ...column, frame);
@@ -70,18 +80,23 @@ export function drawCurves() {
       group.dataset.line = index;
       group.classList.toggle("selected", index === chosen);
       group.classList.toggle("because", model.because.has(index));
-      const way = line.by[line.columns.indexOf(column)], label = [line.conversion, way && `by ${way}`].filter(Boolean).join(" ");
-      if (label && to.seen) group.append(s("text", { x: frame.width - 10, y: to.y - 4, "text-anchor": "end" }, label));
-      if (index === chosen || model.because.has(index)) made.push(group); else made.unshift(group);
+      const way = line.by[line.columns.indexOf(column)],
+            label = [line.conversion, way && `by ${way}`].filter(Boolean).join(" ");
+      if (label && to.seen) group.append(s("text", {x: frame.width - 10, y: to.y - 4, "text-anchor": "end"}, label));
+      if (index === chosen || model.because.has(index)) made.push(group);
+      else made.unshift(group);
     }
     drawn += any;
   });
   for (const [pair, lines] of bundles) {
     const from = end("source", ...lines[0].columns[0], frame), to = end("target", ...lines[0].target, frame);
     if (!from || !to || !(from.seen || to.seen)) continue;
-    const group = path(from, to, frame, lines.length > 1 ? "line bundle" : "line", `${lines.length} lines from ${pair.replace(">", " to ")}: a click opens both sets`, number(pair.split(">")[1]));
+    const group = path(
+        from, to, frame, lines.length > 1 ? "line bundle" : "line",
+        `${lines.length} lines from ${pair.replace(">", " to ")}: a click opens both sets`, number(pair.split(">")[1]));
     group.dataset.sets = pair;
-    if (lines.length > 1 && from.seen && to.seen) group.append(s("text", { x: frame.width - 24, y: to.y - 4 }, String(lines.length)));
+    if (lines.length > 1 && from.seen && to.seen)
+      group.append(s("text", {x: frame.width - 24, y: to.y - 4}, String(lines.length)));
     made.unshift(group);
     drawn++;
   }
@@ -91,25 +106,26 @@ export function drawCurves() {
   }
   svg.classList.toggle("one-selected", chosen >= 0);
   svg.replaceChildren(...made, rubber);
-  counts = { drawn, of: model.outline.lines.length };
+  counts = {drawn, of: model.outline.lines.length};
 }
 
 // A rule that no line made: what goes from column to column, dotted.
 function ruleCurves(rule, number, frame) {
   const made = [], done = new Set();
-  for (const atom of rule.words.made) for (const cell of atom.cells) {
-    if (cell[1] !== "is") continue;
-    for (const column of cell[3]) {
-      const key = `${column}>${atom.set}.${cell[0]}`;
-      if (done.has(key)) continue;
-      done.add(key);
-      const from = end("source", ...column, frame), to = end("target", atom.set, cell[0], frame);
-      if (!from || !to || !(from.seen || to.seen)) continue;
-      const group = path(from, to, frame, "rule", `by rule ${number}, written by hand`);
-      group.classList.toggle("because", model.becauseRule === number);
-      made.push(group);
+  for (const atom of rule.words.made)
+    for (const cell of atom.cells) {
+      if (cell[1] !== "is") continue;
+      for (const column of cell[3]) {
+        const key = `${column}>${atom.set}.${cell[0]}`;
+        if (done.has(key)) continue;
+        done.add(key);
+        const from = end("source", ...column, frame), to = end("target", atom.set, cell[0], frame);
+        if (!from || !to || !(from.seen || to.seen)) continue;
+        const group = path(from, to, frame, "rule", `by rule ${number}, written by hand`);
+        group.classList.toggle("because", model.becauseRule === number);
+        made.push(group);
+      }
     }
-  }
   return made;
 }
 
@@ -120,10 +136,13 @@ function number(set) {
 }
 
 // The line that follows the pointer.
-const rubber = s("g", { class: "ghost" }, s("path", { class: "thin" }));
+const rubber = s("g", {class: "ghost"}, s("path", {class: "thin"}));
 export function stretch(side, column, event) {
   const frame = frameOf(), from = side && end(side, ...column, frame);
-  if (!from) { rubber.firstChild.setAttribute("d", ""); return; }
+  if (!from) {
+    rubber.firstChild.setAttribute("d", "");
+    return;
+  }
   const gap = byId("gap").getBoundingClientRect();
   const x = Math.max(0, Math.min(frame.width, event.clientX - gap.left)), y = event.clientY - gap.top;
   rubber.firstChild.setAttribute("d", side === "source" ? curve(from.y, y, x) : `M${x} ${y}L${frame.width} ${from.y}`);

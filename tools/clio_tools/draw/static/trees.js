@@ -1,35 +1,45 @@
-// Both sides as trees: sets with their columns, keys, refs, conditions and texts. Rows that are filtered out or collapsed aren't there.
-import { ask } from "./api.js";
-import { byId, h, counted, say } from "./dom.js";
-import { change, model, nameOf, rowsOf, select, setsOf } from "./model.js";
+// Both sides as trees: sets with their columns, keys, refs, conditions and texts. Rows that are filtered out or
+// collapsed aren't there.
+import {ask} from "./api.js";
+import {byId, counted, h, say} from "./dom.js";
+import {change, model, nameOf, rowsOf, select, setsOf} from "./model.js";
 
-const MANY = 200; // with more columns on a side, its sets begin collapsed
+const MANY = 200;  // with more columns on a side, its sets begin collapsed
 export const sides = {
-  source: { name: "source", collapsed: new Set(), known: new Set(), filter: "", lined: false, rows: [], at: new Map() },
-  target: { name: "target", collapsed: new Set(), known: new Set(), filter: "", lined: false, rows: [], at: new Map() },
+  source: {name: "source", collapsed: new Set(), known: new Set(), filter: "", lined: false, rows: [], at: new Map()},
+  target: {name: "target", collapsed: new Set(), known: new Set(), filter: "", lined: false, rows: [], at: new Map()},
 };
 export const keyOf = (set, column) => (column === undefined || column === null ? set : `${set}.${column}`);
 
 // The columns of each side that lines lead from and to, and what stands beside columns.
 function marks() {
-  const lined = { source: new Set(), target: new Set() }, texts = new Map(), tests = new Map(), ends = { source: new Map(), target: new Map() };
-  const add = (side, key, line) => { const listed = ends[side].get(key); if (listed) listed.push(line); else ends[side].set(key, [line]); };
+  const lined = {source: new Set(), target: new Set()}, texts = new Map(), tests = new Map(),
+        ends = {source: new Map(), target: new Map()};
+  const add = (side, key, line) => {
+    const listed = ends[side].get(key);
+    if (listed) listed.push(line);
+    else ends[side].set(key, [line]);
+  };
   model.outline.lines.forEach((line, index) => {
     line.columns.forEach((column) => add("source", keyOf(...column), line));
     if (line.literal === null) add("target", keyOf(...line.target), line);
     line.columns.forEach((column) => lined.source.add(keyOf(...column)));
     lined.target.add(keyOf(...line.target));
-    if (line.literal !== null) texts.set(keyOf(...line.target), [...(texts.get(keyOf(...line.target)) ?? []), [line.literal, index]]);
+    if (line.literal !== null)
+      texts.set(keyOf(...line.target), [...(texts.get(keyOf(...line.target)) ?? []), [line.literal, index]]);
   });
-  model.outline.conditions.forEach((one) => tests.set(keyOf(...one.column), [...(tests.get(keyOf(...one.column)) ?? []), one.test]));
+  model.outline.conditions.forEach(
+      (one) => tests.set(keyOf(...one.column), [...(tests.get(keyOf(...one.column)) ?? []), one.test]));
   for (const rule of model.live?.rules ?? []) {
     if (!rule.by_hand) continue;
-    for (const made of rule.words.made) for (const cell of made.cells) if (cell[1] === "is") {
-      lined.target.add(keyOf(made.set, cell[0]));
-      cell[3].forEach((column) => lined.source.add(keyOf(...column)));
-    }
+    for (const made of rule.words.made)
+      for (const cell of made.cells)
+        if (cell[1] === "is") {
+          lined.target.add(keyOf(made.set, cell[0]));
+          cell[3].forEach((column) => lined.source.add(keyOf(...column)));
+        }
   }
-  return { lined, texts, tests, ends };
+  return {lined, texts, tests, ends};
 }
 
 export function drawTrees() {
@@ -46,53 +56,96 @@ function arranged(side) {
   return [...trees].sort((one, other) => (place.get(one.name) ?? 1e6) - (place.get(other.name) ?? 1e6));
 }
 
-function drawSide(side, { lined, texts, tests, ends }) {
+function drawSide(side, {lined, texts, tests, ends}) {
   const box = byId(side.name), sets = [...setsOf(model.outline[side.name])];
   const total = sets.reduce((sum, [tree]) => sum + tree.columns.length, 0);
   const active = document.activeElement?.closest?.(`#${side.name} .row`)?.dataset.key;
   const parents = new Map();
   sets.forEach(([tree]) => tree.inner.forEach((inner) => parents.set(inner.name, tree.name)));
   for (const [tree] of sets) {
-    if (!side.known.has(tree.name)) { side.known.add(tree.name); if (total > MANY) side.collapsed.add(tree.name); }
+    if (!side.known.has(tree.name)) {
+      side.known.add(tree.name);
+      if (total > MANY) side.collapsed.add(tree.name);
+    }
   }
   const filter = side.filter.toLowerCase();
   const rows = [];
   side.at = new Map();
-  const hidden = (name) => { for (let up = parents.get(name); up; up = parents.get(up)) if (!filter && side.collapsed.has(up)) return up; return null; };
+  const hidden = (name) => {
+    for (let up = parents.get(name); up; up = parents.get(up))
+      if (!filter && side.collapsed.has(up)) return up;
+    return null;
+  };
   for (const [tree, level] of sets) {
     const whole = !filter || tree.name.toLowerCase().includes(filter);
-    let columns = tree.columns.filter((column) => (whole || column.name.toLowerCase().includes(filter)) && (!side.lined || lined[side.name].has(keyOf(tree.name, column.name))));
+    let columns = tree.columns.filter(
+        (column) => (whole || column.name.toLowerCase().includes(filter)) &&
+            (!side.lined || lined[side.name].has(keyOf(tree.name, column.name))));
     const isOpen = filter ? true : !side.collapsed.has(tree.name);
     const under = hidden(tree.name);
-    if (under) { side.at.set(tree.name, { set: under }); tree.columns.forEach((column) => side.at.set(keyOf(tree.name, column.name), { set: under })); continue; }
+    if (under) {
+      side.at.set(tree.name, {set: under});
+      tree.columns.forEach((column) => side.at.set(keyOf(tree.name, column.name), {set: under}));
+      continue;
+    }
     if ((filter || side.lined) && !columns.length && !(whole && filter) && !(side.lined && tree.inner.length)) continue;
     rows.push(setRow(side, tree, level, isOpen, columns.length));
     for (const column of tree.columns) {
       const key = keyOf(tree.name, column.name);
-      if (!isOpen) { side.at.set(key, { set: tree.name }); continue; }
+      if (!isOpen) {
+        side.at.set(key, {set: tree.name});
+        continue;
+      }
       if (!columns.includes(column)) continue;
-      rows.push(columnRow(side, tree, column, level, { lined: lined[side.name].has(key), texts: texts.get(key), tests: tests.get(key), ends: ends[side.name].get(key) ?? [] }));
+      rows.push(columnRow(side, tree, column, level, {
+        lined: lined[side.name].has(key),
+        texts: texts.get(key),
+        tests: tests.get(key),
+        ends: ends[side.name].get(key) ?? []
+      }));
     }
   }
   side.rows = rows;
-  rows.forEach((row, place) => { side.at.set(row.dataset.key, { place }); });
-  if (!rows.length) rows.push(h("p", { class: "empty panel" }, filter ? "nothing matches" : "no sets yet: draft them from a database or from files by the button above, or declare them in the text"));
+  rows.forEach((row, place) => { side.at.set(row.dataset.key, {place}); });
+  if (!rows.length)
+    rows.push(h(
+        "p", {class: "empty panel"},
+        filter ?
+            "nothing matches" :
+            "no sets yet: draft them from a database or from files by the button above, or declare them in the text"));
   box.replaceChildren(...rows);
   byId(`${side.name}-fold`).textContent = sets.some(([tree]) => !side.collapsed.has(tree.name)) ? "collapse" : "expand";
   const again = active && rows.find((row) => row.dataset.key === active);
   const tabbed = again || rows.find((row) => row.classList.contains("row"));
   if (tabbed) tabbed.tabIndex = 0;
-  if (again) again.focus({ preventScroll: true });
+  if (again) again.focus({preventScroll: true});
 }
 
 function setRow(side, tree, level, isOpen, count) {
-  const row = h("div", { class: "row set", role: "treeitem", tabindex: -1, "aria-level": level, "aria-expanded": String(isOpen), "data-key": tree.name, "data-set": tree.name,
-    "aria-label": `${level > 1 ? "inner set" : "set"} ${tree.name}, ${counted(count, "column")}${side.name === "target" && rowsOf(tree.name).length ? `, rows ${menuOf(side, tree.name)}` : ""}` },
-  side.name === "target" && h("span", { class: "port", "aria-hidden": "true" }),
-  h("span", { class: "twist", "aria-hidden": "true" }, isOpen ? "▾" : "▸"), h("span", { class: "name" }, tree.name),
-  h("button", { class: "badge menu", tabindex: -1, "data-menu": "", title: side.name === "target" ? "From which set its rows come; keys and refs" : "Keys, refs and lookups", "aria-label": `Set ${tree.name}` }, menuOf(side, tree.name)),
-  h("span", { class: "count", "data-count": count }, countOf(side, tree.name, isOpen, count)),
-  side.name === "source" && h("span", { class: "port", "aria-hidden": "true" }));
+  const row =
+      h("div", {
+        class: "row set",
+        role: "treeitem",
+        tabindex: -1,
+        "aria-level": level,
+        "aria-expanded": String(isOpen),
+        "data-key": tree.name,
+        "data-set": tree.name,
+        "aria-label": `${level > 1 ? "inner set" : "set"} ${tree.name}, ${counted(count, "column")}${
+            side.name === "target" && rowsOf(tree.name).length ? `, rows ${menuOf(side, tree.name)}` : ""}`
+      },
+        side.name === "target" && h("span", {class: "port", "aria-hidden": "true"}),
+        h("span", {class: "twist", "aria-hidden": "true"}, isOpen ? "▾" : "▸"), h("span", {class: "name"}, tree.name),
+        h("button", {
+          class: "badge menu",
+          tabindex: -1,
+          "data-menu": "",
+          title: side.name === "target" ? "From which set its rows come; keys and refs" : "Keys, refs and lookups",
+          "aria-label": `Set ${tree.name}`
+        },
+          menuOf(side, tree.name)),
+        h("span", {class: "count", "data-count": count}, countOf(side, tree.name, isOpen, count)),
+        side.name === "source" && h("span", {class: "port", "aria-hidden": "true"}));
   row.style.paddingLeft = `${8 + 14 * (level - 1)}px`;
   return row;
 }
@@ -105,8 +158,15 @@ function menuOf(side, name) {
 }
 
 function countOf(side, name, isOpen, count) {
-  const source = side.name === "source" ? model.live?.sources?.[name] : null, rows = side.name === "target" ? model.live?.tables?.[name] : null;
-  const told = source ? { "made up": "made-up rows", whole: source.file, sample: `${source.rows} of ${source.of?.toLocaleString("en")} rows` }[source.kind] : rows ? counted(rows.count, "row") + change(name) : "";
+  const source = side.name === "source" ? model.live?.sources?.[name] : null,
+        rows = side.name === "target" ? model.live?.tables?.[name] : null;
+  const told = source ? {
+    "made up": "made-up rows",
+    whole: source.file,
+    sample: `${source.rows} of ${source.of?.toLocaleString("en")} rows`
+  }[source.kind] :
+      rows ? counted(rows.count, "row") + change(name) :
+             "";
   return [isOpen ? "" : counted(count, "column"), told].filter(Boolean).join(" · ");
 }
 
@@ -114,38 +174,81 @@ function countOf(side, name, isOpen, count) {
 let byHand = "";
 export function liveTrees() {
   const now = JSON.stringify((model.live?.rules ?? []).filter((rule) => rule.by_hand).map((rule) => rule.text));
-  if (now !== byHand && model.live?.rules) { byHand = now; drawTrees(); markRows(); return; }
-  for (const side of Object.values(sides)) for (const row of side.rows) {
-    if (!row.classList.contains("set")) continue;
-    const count = row.querySelector(".count");
-    count.textContent = countOf(side, row.dataset.set, row.getAttribute("aria-expanded") === "true", Number(count.dataset.count));
+  if (now !== byHand && model.live?.rules) {
+    byHand = now;
+    drawTrees();
+    markRows();
+    return;
   }
+  for (const side of Object.values(sides))
+    for (const row of side.rows) {
+      if (!row.classList.contains("set")) continue;
+      const count = row.querySelector(".count");
+      count.textContent =
+          countOf(side, row.dataset.set, row.getAttribute("aria-expanded") === "true", Number(count.dataset.count));
+    }
 }
 
-function columnRow(side, tree, column, level, { lined, texts, tests, ends }) {
+function columnRow(side, tree, column, level, {lined, texts, tests, ends}) {
   const name = column.name, badges = [], said = [];
   const keys = tree.keys.filter((key) => key.includes(name));
   if (keys.length) {
     const told = keys.map((key) => (key.length > 1 ? `key (${key.join(", ")})` : "key")).join(", ");
-    badges.push(h("span", { class: "badge key", title: keys.map((key) => `key (${key.join(", ")})`).join("; ") }, keys.every((key) => key.length > 1) ? "key+" : "key"));
+    badges.push(
+        h("span", {class: "badge key", title: keys.map((key) => `key (${key.join(", ")})`).join("; ")},
+          keys.every((key) => key.length > 1) ? "key+" : "key"));
     said.push(told);
   }
-  for (const [left, right] of tree.deps) if (left.includes(name) || right.includes(name)) {
-    badges.push(h("span", { class: "badge key", title: `dep (${left.join(", ")}) -> (${right.join(", ")})` }, left.includes(name) ? "dep→" : "→dep"));
-    said.push(left.includes(name) ? `decides ${right.join(", ")}` : `follows from ${left.join(", ")}`);
-  }
+  for (const [left, right] of tree.deps)
+    if (left.includes(name) || right.includes(name)) {
+      badges.push(
+          h("span", {class: "badge key", title: `dep (${left.join(", ")}) -> (${right.join(", ")})`},
+            left.includes(name) ? "dep→" : "→dep"));
+      said.push(left.includes(name) ? `decides ${right.join(", ")}` : `follows from ${left.join(", ")}`);
+    }
   tree.refs.forEach((ref, index) => {
     if (ref.own[0] !== name && !ref.own.includes(name)) return;
     const to = `${ref.set}.${ref.referred[ref.own.indexOf(name)]}`;
-    badges.push(h("button", { class: "badge", tabindex: -1, "data-ref": index, title: `ref (${ref.own.join(", ")}) -> ${ref.set} (${ref.referred.join(", ")})${ref.optional ? " optional" : ""}` }, `${ref.optional ? "⇢" : "→"} ${to}`));
+    badges.push(
+        h("button", {
+          class: "badge",
+          tabindex: -1,
+          "data-ref": index,
+          title:
+              `ref (${ref.own.join(", ")}) -> ${ref.set} (${ref.referred.join(", ")})${ref.optional ? " optional" : ""}`
+        },
+          `${ref.optional ? "⇢" : "→"} ${to}`));
     said.push(`${ref.optional ? "optional ref" : "ref"} to ${to}`);
   });
-  (tests ?? []).forEach((test) => { badges.push(h("span", { class: "badge only" }, `only ${test}`)); said.push(`only ${test}`); });
-  (texts ?? []).forEach(([text, index]) => { badges.push(h("button", { class: "badge literal", tabindex: -1, "data-line": index, title: `line ${JSON.stringify(text)}` }, JSON.stringify(text))); said.push(`text ${text}`); });
-  if (ends.length) said.push(counted(ends.length, "line") + " " + (side.name === "source" ? "to " + ends.map((line) => line.target.join(".")).join(", ") : "from " + ends.map((line) => line.columns.map(nameOf).join(" and ")).join(", ")));
-  const row = h("div", { class: `row column${lined ? " lined" : ""}`, role: "treeitem", tabindex: -1, "aria-level": level + 1, "data-key": keyOf(tree.name, name), "data-set": tree.name, "data-column": name,
-    "aria-label": [`column ${name} of ${tree.name}`, ...said].join(", ") },
-  side.name === "target" && h("span", { class: "port" }), h("span", { class: "name", title: `${tree.name}.${name}` }, name), ...badges, side.name === "source" && h("span", { class: "port" }));
+  (tests ?? []).forEach((test) => {
+    badges.push(h("span", {class: "badge only"}, `only ${test}`));
+    said.push(`only ${test}`);
+  });
+  (texts ?? []).forEach(([text, index]) => {
+    badges.push(
+        h("button", {class: "badge literal", tabindex: -1, "data-line": index, title: `line ${JSON.stringify(text)}`},
+          JSON.stringify(text)));
+    said.push(`text ${text}`);
+  });
+  if (ends.length)
+    said.push(
+        counted(ends.length, "line") + " " +
+        (side.name === "source" ? "to " + ends.map((line) => line.target.join(".")).join(", ") :
+                                  "from " + ends.map((line) => line.columns.map(nameOf).join(" and ")).join(", ")));
+  const row =
+      h("div", {
+        class: `row column${lined ? " lined" : ""}`,
+        role: "treeitem",
+        tabindex: -1,
+        "aria-level": level + 1,
+        "data-key": keyOf(tree.name, name),
+        "data-set": tree.name,
+        "data-column": name,
+        "aria-label": [`column ${name} of ${tree.name}`, ...said].join(", ")
+      },
+        side.name === "target" && h("span", {class: "port"}),
+        h("span", {class: "name", title: `${tree.name}.${name}`}, name), ...badges,
+        side.name === "source" && h("span", {class: "port"}));
   row.style.paddingLeft = `${26 + 14 * (level - 1)}px`;
   return row;
 }
@@ -154,27 +257,41 @@ function columnRow(side, tree, column, level, { lined, texts, tests, ends }) {
 export function markRows() {
   const one = model.selection, line = one?.kind === "line" ? model.outline?.lines[one.index] : null;
   const chosen = new Set(), why = new Set();
-  if (line) { line.columns.forEach((column) => chosen.add("source:" + keyOf(...column))); chosen.add("target:" + keyOf(...line.target)); }
+  if (line) {
+    line.columns.forEach((column) => chosen.add("source:" + keyOf(...column)));
+    chosen.add("target:" + keyOf(...line.target));
+  }
   if (one?.kind === "set") chosen.add(`${one.side}:${one.set}`);
   if (one?.kind === "column") chosen.add(`${one.side}:${keyOf(one.set, one.column)}`);
-  for (const index of model.because) { const other = model.outline?.lines[index]; if (other) { other.columns.forEach((column) => why.add("source:" + keyOf(...column))); why.add("target:" + keyOf(...other.target)); } }
-  const clash = /^clash: table (\w+), key \(([^)]*)\): .* in column (\S+)$/s.exec(model.live?.fault?.message ?? "");
-  const clashing = new Set(clash ? [...clash[2].split(", "), clash[3]].map((column) => `target:${keyOf(clash[1], column)}`) : []);
-  for (const side of Object.values(sides)) for (const row of side.rows) {
-    const key = `${side.name}:${row.dataset.key}`;
-    row.classList.toggle("clash", clashing.has(key));
-    row.classList.toggle("selected", chosen.has(key));
-    row.classList.toggle("because", why.has(key));
-    row.classList.toggle("picked", side.name === "source" && model.picked !== null && row.dataset.key === keyOf(...model.picked));
-    if (row.dataset.column) row.setAttribute("aria-selected", String(chosen.has(key)));
+  for (const index of model.because) {
+    const other = model.outline?.lines[index];
+    if (other) {
+      other.columns.forEach((column) => why.add("source:" + keyOf(...column)));
+      why.add("target:" + keyOf(...other.target));
+    }
   }
+  const clash = /^clash: table (\w+), key \(([^)]*)\): .* in column (\S+)$/s.exec(model.live?.fault?.message ?? "");
+  const clashing =
+      new Set(clash ? [...clash[2].split(", "), clash[3]].map((column) => `target:${keyOf(clash[1], column)}`) : []);
+  for (const side of Object.values(sides))
+    for (const row of side.rows) {
+      const key = `${side.name}:${row.dataset.key}`;
+      row.classList.toggle("clash", clashing.has(key));
+      row.classList.toggle("selected", chosen.has(key));
+      row.classList.toggle("because", why.has(key));
+      row.classList.toggle(
+          "picked", side.name === "source" && model.picked !== null && row.dataset.key === keyOf(...model.picked));
+      if (row.dataset.column) row.setAttribute("aria-selected", String(chosen.has(key)));
+    }
 }
 
 export function show(side, set, column) {
   const one = sides[side];
   if (one.at.get(keyOf(set, column))?.place === undefined) {
-    one.filter = ""; one.lined = false;
-    byId(`${side}-filter`).value = ""; byId(`${side}-lined`).checked = false;
+    one.filter = "";
+    one.lined = false;
+    byId(`${side}-filter`).value = "";
+    byId(`${side}-lined`).checked = false;
     const parents = new Map();
     for (const [tree] of setsOf(model.outline[side])) tree.inner.forEach((inner) => parents.set(inner.name, tree.name));
     for (let up = set; up; up = parents.get(up)) one.collapsed.delete(up);
@@ -182,7 +299,12 @@ export function show(side, set, column) {
     markRows();
   }
   const row = one.rows[one.at.get(keyOf(set, column))?.place];
-  if (row) { const box = byId(side); const top = row.offsetTop; if (top < box.scrollTop + 24 || top > box.scrollTop + box.clientHeight - 44) box.scrollTop = Math.max(0, top - box.clientHeight / 2); }
+  if (row) {
+    const box = byId(side);
+    const top = row.offsetTop;
+    if (top < box.scrollTop + 24 || top > box.scrollTop + box.clientHeight - 44)
+      box.scrollTop = Math.max(0, top - box.clientHeight / 2);
+  }
   return row;
 }
 
@@ -190,21 +312,32 @@ export function toggle(side, set, wanted) {
   const one = sides[side];
   const isOpen = !one.collapsed.has(set);
   if (wanted === isOpen) return;
-  if (isOpen) one.collapsed.add(set); else one.collapsed.delete(set);
+  if (isOpen) one.collapsed.add(set);
+  else one.collapsed.delete(set);
   say(`${set} ${isOpen ? "collapsed" : "expanded"}`);
 }
 
 export function foldAll(side) {
   const one = sides[side], names = [...setsOf(model.outline[side])].map(([tree]) => tree.name);
-  if (names.some((name) => !one.collapsed.has(name))) names.forEach((name) => one.collapsed.add(name)); else one.collapsed.clear();
+  if (names.some((name) => !one.collapsed.has(name))) names.forEach((name) => one.collapsed.add(name));
+  else one.collapsed.clear();
 }
 
 // Another order of the sets on the page, not in the text: with few crossings, or that of the text again.
 export async function arrange() {
-  if (sides.source.order) { sides.source.order = sides.target.order = null; byId("arrange").textContent = "Arrange sets"; say("the order of the text"); return; }
-  const found = await ask("arrange", { text: model.text });
-  if (found.error) { say(found.error); return; }
-  sides.source.order = found.source; sides.target.order = found.target;
+  if (sides.source.order) {
+    sides.source.order = sides.target.order = null;
+    byId("arrange").textContent = "Arrange sets";
+    say("the order of the text");
+    return;
+  }
+  const found = await ask("arrange", {text: model.text});
+  if (found.error) {
+    say(found.error);
+    return;
+  }
+  sides.source.order = found.source;
+  sides.target.order = found.target;
   byId("arrange").textContent = "Order of the text";
   say("arranged so that few lines cross");
 }
@@ -218,4 +351,4 @@ export function focusRow(side, place) {
   row.focus();
 }
 
-export { select };
+export {select};
