@@ -148,13 +148,13 @@ class Whole(Page):
         (folder / "mapping.clio").write_text("mapping 1; source { set a { x, y; } } target { set b { u, v; key (u); } }\n"
                                              "line a.x -> b.u;\n")
         with open(folder / "a.csv", "w", newline="", encoding="utf-8") as file:
-            csv.writer(file).writerows([["x", "y"], *[[f"x{n}", f"y{n}"] for n in range(40000)]])
+            csv.writer(file).writerows([["x", "y"], *[[f"x{n}", f"y{n}"] for n in range(24000)]])
         self.open(folder)
-        self.until_shown("#target .count", "40,000 rows")
+        self.until_shown("#target .count", "24,000 rows")
         self.assertNotIn("+", self.shown("#target .count"))
         self.caret("t.value.length")
         self.browser.type("rule a(p, q) -> b(q, p);\n")
-        self.until_shown("#target .count", "80,000 rows (+40,000)")
+        self.until_shown("#target .count", "48,000 rows (+24,000)")
         self.browser.click("#save")
         self.browser.until("document.getElementById('status').textContent === 'saved'")
         with open(folder / "a.csv", "a", encoding="utf-8") as file:
@@ -162,7 +162,7 @@ class Whole(Page):
         self.caret("t.value.length")
         self.browser.type("// again\n")
         self.until_shown("#fault", "The text x8 is from")
-        self.assertIn("a.csv line 40002 (record 40001)", self.shown("#fault"))
+        self.assertIn("a.csv line 24002 (record 24001)", self.shown("#fault"))
         self.assertIn("a.csv line 10 (record 9)", self.shown("#fault"))
 
 

@@ -13,7 +13,7 @@ from ..mapping.rules import printed as printed_rule
 from ..program import Refused
 from ..why.exchange import is_null
 from . import faults
-from .clashing import rows_of_clash
+from .clashing import of_clash
 from .cures import of_warning
 from .examples import Examples
 from .meant import Meant, meant
@@ -23,6 +23,7 @@ from .running import Ended, Runner, Stopped
 from .sample import Report, Sampler
 from .words import in_words
 
+CLASH = 3  # the status that clio ends with
 SHOWN = 100  # rows of each table that are passed on at once
 CELLS = 12_000  # so many cells are passed on at once of all tables
 
@@ -119,10 +120,8 @@ class Live:
         words = ["exchange", *self._mode()]
         ended = self.runner.run(*words)
         if ended.status != 0:
-            fault = self._fault(ended, words)
-            if ended.message.startswith("clash: "):
-                fault["clash"] = rows_of_clash(mapping, self.printed, ended.message, self.report)
-            made["fault"] = fault
+            made["fault"] = self._fault(ended, words) if ended.status != CLASH else \
+                of_clash(ended.message, mapping, self.printed, self.meant.content, self.report)
             return
         self.mapping = mapping
         counts = dict(re.findall(rb"^(\S+)\.csv ([0-9]+)$", ended.printed, re.MULTILINE))
