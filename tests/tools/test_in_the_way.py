@@ -1,10 +1,11 @@
 """clio itself, with a link or a pipe in the place of what it writes and reads: nothing is written through a link, no pipe
-is waited for.
+is waited for. And what no case of examples/cases can have: a loop of links, a word that is no text, a last byte 26.
 """
 import os
+import subprocess
 import unittest
 
-from trial import Trial
+from trial import PROGRAM, Trial
 
 MAPPING = "mapping 1; source { set a { x; } } target { set t { alias; } } line a.x -> t.alias;"
 
@@ -40,6 +41,26 @@ class InTheWay(Trial):
         (self.folder / "a.csv").unlink()
         os.mkfifo(self.folder / "a.csv")
         self.assertEqual(self.clio("exchange")[0], 7)
+
+    def test_a_loop_of_links(self) -> None:
+        """What is there and can't be opened is a read fault, and not absent."""
+        (self.folder / "a.csv").unlink()
+        os.symlink("a.csv", self.folder / "a.csv")
+        self.assertEqual(self.clio("exchange")[0], 7)
+
+    def test_a_word_that_is_no_text(self) -> None:
+        """No command has such a word, wherever it is, and nothing is written or printed for one."""
+        for words in [b"exchange", b"\xff"], [b"\xff", b"exchange"], [b"\xff"]:
+            done = subprocess.run([PROGRAM, *words], cwd=self.folder, capture_output=True, check=False)
+            self.assertEqual((done.returncode, done.stdout), (2, b""))
+            self.assertIn(b"usage: clio", done.stderr)
+            self.assertFalse((self.folder / "out").exists())
+
+    def test_a_last_byte_26(self) -> None:
+        """It is a byte of the last cell, and no end of the file."""
+        self.file("a.csv", b"x\nabc\x1a")
+        self.assertEqual(self.clio("exchange")[0], 0)
+        self.assertEqual((self.folder / "out/t.csv").read_bytes(), b"alias\nabc\x1a\n")
 
 
 if __name__ == "__main__":
