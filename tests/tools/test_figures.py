@@ -62,6 +62,13 @@ class Lines(unittest.TestCase):
         self.assertEqual(broken, [])
 
 
+class Tables(unittest.TestCase):
+    def test_no_table_is_torn_apart(self) -> None:
+        torn = [f"{page.name}: {row}" for page in PAGES
+                for row in re.findall(r"(?:^|\n)\n(\|[^\n]*)\n(?!\|[-|]+\n)", without_code(page))]
+        self.assertEqual(torn, [])
+
+
 class Crates(unittest.TestCase):
     def test_each_crate_has_its_line_and_a_star_exactly_if_the_program_does_not_use_it(self) -> None:
         text = (TOP / "crates/README.md").read_text(encoding="utf-8")
