@@ -1,4 +1,5 @@
-"""clio-load over random histories: sources that change, loads of several kinds, edits of the database by hand; at the end the
+"""clio-load over random histories: sources that change, loads of several kinds, edits of the database by hand; at the
+end the
 tables have the rows that a load into empty ones gives, and no made-up number has ever moved.
 
 HISTORIES says how many there are for each database.
@@ -14,6 +15,7 @@ import tempfile
 import unittest
 
 import server
+from clio_tools.load import command, postgres, sqlite  # noqa: F401  pylint: disable=unused-import
 from forked import ended
 from warehouse import FIRST, Base, PostgresBase, Source, SqliteBase, write_source
 
@@ -52,7 +54,8 @@ class World:
             "client": [mail, one(["Ann", "Bob", "?", "O'Neil", "a,b", ""]), one([day, ""]), one(["true", "false"])],
             "sale": [str(pick(8)), mail, one([f"{day}T10:00:00Z", ""]), f"{pick(1000) / 100:.2f}"],
             "item": [str(pick(8)), sku, str(pick(9))],
-            "offer": [sku, one(["Tea", "Cup", "Line\nbreak"]), f"{pick(1000) / 100:.2f}", one(["drink", "ware", "new"])],
+            "offer": [sku, one(["Tea", "Cup", "Line\nbreak"]), f"{pick(1000) / 100:.2f}",
+                      one(["drink", "ware", "new"])],
             "depot": [code, one(["Bonn", "Ulm", "Paris", "Rome"]), one(["DE", "FR", "IT"])],
             "held": [code, sku, one([str(pick(99)), ""])],
             "visit": [mail, one([day, ""])],
@@ -142,7 +145,8 @@ class Histories(unittest.TestCase):
 
     def check_rebuilt(self, folder: pathlib.Path, base: Base) -> None:
         """The tables have the rows that a load into empty ones gives, and those of the hand; a dry run agrees."""
-        status, out, said = ended("clio-load", [*base.words, "--ids", "ids.db", "--delete", "--others", "--dry-run"], folder)
+        status, out, said = ended("clio-load", [*base.words, "--ids", "ids.db", "--delete", "--others", "--dry-run"],
+                                  folder)
         self.assertEqual(status, 0, out + said)
         found = base.state()
         for table, rows in others(base).items():

@@ -21,21 +21,23 @@ Tell = Callable[[str], None]
 class Change:
     """Writes what a comparison found."""
 
-    def __init__(self, comparison: Comparison, tell: Tell) -> None:
+    def __init__(self, comparison: Comparison, tell: Tell, direct: Callable[[TablePlan], int]) -> None:
         self.comparison, self.database, self.record = comparison, comparison.database, comparison.record
-        self.plan, self.tell = comparison.plan, tell
+        self.plan, self.tell, self.direct = comparison.plan, tell, direct
 
     def write(self) -> None:
         """Writes all changes, and records whose rows they are."""
         for plan in self.plan.tables:
             counts = self.comparison.counts[plan.number]
-            if counts.inserted or counts.changed:
+            if counts.inserted or counts.changed or plan.is_direct:
                 self.tell(f"writes {plan.table.name}")
             if not plan.is_empty and (counts.inserted or counts.changed):
                 self.part(plan)
             if counts.changed:
                 self.database.run(self.update(plan))
-            if counts.inserted:
+            if plan.is_direct:
+                self.fill_directly(plan)
+            elif counts.inserted:
                 self.database.run(self.insert(plan))
         for plan in reversed(self.plan.tables):
             counts = self.comparison.counts[plan.number]
@@ -46,6 +48,12 @@ class Change:
         for plan in self.plan.tables:
             self.keep_record(plan)
             self.database.set_sequences(plan)
+
+    def fill_directly(self, plan: TablePlan) -> None:
+        """Puts a file into an empty table; only then it is known how many rows there are."""
+        counts = self.comparison.counts[plan.number]
+        counts.rows = counts.inserted = self.direct(plan)
+        self.comparison.choose_key(plan)
 
     def update(self, plan: TablePlan) -> str:
         """Writes the changed rows."""

@@ -72,6 +72,7 @@ class Comparison:
         counts.inserted = self.database.count(f"SELECT count(*) FROM {plan.work('diff')} WHERE is_new = 1")
         counts.changed = self.database.count(f"SELECT count(*) FROM {plan.work('diff')} WHERE is_new = 0")
         if counts.changed:
+            self.check_different(plan, plan.key or [], f"{plan.work('diff')} WHERE is_new = 0")
             counts.columns = self.changed_columns(plan)
         if self.has_extra(plan):
             run(self.extra(plan))
@@ -97,10 +98,14 @@ class Comparison:
 
     def check_key(self, plan: TablePlan, key: list[int]) -> None:
         """Refuses rows of the target that are one by the key, as 1 and 01 are in a column of numbers."""
-        if plan.is_empty and [plan.loaded[place].name for place in key] in plan.table.keys:
-            return  # the table's own key tells
+        if [plan.loaded[place].name for place in key] in plan.table.keys:
+            return  # the table's own key tells, but of rows that are changed
+        self.check_different(plan, key, plan.work("new"))
+
+    def check_different(self, plan: TablePlan, key: list[int], source: str) -> None:
+        """Refuses rows of a work table that are one by the key."""
         cells = ", ".join(f"c{place}" for place in key)
-        found = next(iter(self.database.rows(f"SELECT {cells} FROM {plan.work('new')} GROUP BY {cells} HAVING count(*) "
+        found = next(iter(self.database.rows(f"SELECT {cells} FROM {source} GROUP BY {cells} HAVING count(*) "
                                              f"> 1 LIMIT 1")), None)
         if found:
             names = ", ".join(plan.key_names())

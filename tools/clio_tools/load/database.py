@@ -9,6 +9,7 @@ from typing import NamedTuple
 
 from clio_tools.load.catalog import BOOLEAN, INTEGER, NUMBER, Catalog, Column
 from clio_tools.load.plan import Plan, TablePlan
+from clio_tools.program import Refused
 
 Cells = tuple[str | None, ...]
 
@@ -17,6 +18,14 @@ class Options(NamedTuple):
     """How the cells of files become values."""
 
     null_text: str | None  # the text that is NULL
+
+
+class DoesNotFit(Refused):
+    """The database refuses a value, or it would be altered."""
+
+
+class NotDirect(Exception):
+    """A file can't go into its table itself after all."""
 
 
 class Misfit(NamedTuple):
@@ -60,6 +69,14 @@ class Database(abc.ABC):
     @abc.abstractmethod
     def fill(self, plan: TablePlan, path: pathlib.Path, options: Options) -> int:
         """Reads a file of the target into a work table; answers how many rows it has."""
+
+    @abc.abstractmethod
+    def can_fill_directly(self, plan: TablePlan, path: pathlib.Path, options: Options) -> bool:
+        """Whether a file can go into its table itself, as long as that has no rows."""
+
+    @abc.abstractmethod
+    def fill_directly(self, plan: TablePlan, path: pathlib.Path, options: Options) -> int:
+        """Puts a file into its table; answers how many rows it has. What doesn't fit there is a DoesNotFit."""
 
     @abc.abstractmethod
     def may_misfit(self, plan: TablePlan, options: Options) -> bool:
@@ -113,6 +130,11 @@ class Database(abc.ABC):
     @abc.abstractmethod
     def close(self) -> None:
         """Ends the session; what is not committed is undone."""
+
+    def new_of_table(self, plan: TablePlan) -> None:
+        """Makes `new` of a table into which its file went."""
+        cells = ", ".join(f"t.{identifier(column.name)} AS c{place}" for place, column in enumerate(plan.loaded))
+        self.run(f"CREATE TEMP VIEW {plan.work('new')} AS SELECT {cells} FROM {plan.table.sql} AS t")
 
     def value(self, sql: str) -> str | None:
         """The first cell of the first row of a query."""

@@ -11,7 +11,7 @@ from clio_tools.draft.names import shown
 from clio_tools.ids.crosswalk import Crosswalk
 from clio_tools.load.changing import Change, Tell
 from clio_tools.load.comparing import DELETE, Comparison
-from clio_tools.load.database import Database, Misfit, Options, literal
+from clio_tools.load.database import Database, DoesNotFit, Misfit, NotDirect, Options, literal
 from clio_tools.load.identity import Identity
 from clio_tools.load.plan import Plan, TablePlan
 from clio_tools.load.record import Record
@@ -33,53 +33,85 @@ class Load:
         self.database, self.plan, self.space, self.crosswalk = database, plan, space, crosswalk
         self.options, self.gone, self.given, self.tell = options, gone, given, tell
         self.is_dry: bool = given.dry_run
+        self.may_be_direct = not (self.is_dry or given.diff or given.identity)
         self.identity = Identity(database, plan, space.mapping.target,
                                  crosswalk) if given.identity and crosswalk else None
 
     def run(self) -> int:
         """Does it all; answers the status."""
         try:
-            with self.database.transaction(self.plan, self.is_dry):
-                comparison = self.compared()
-                self.write(comparison)
+            comparison = self.done()
+        except DoesNotFit as why:
+            raise self.explained(str(why)) from None
         except DatabaseError as error:
             if (error.sqlstate or "")[:2] not in DOES_NOT_FIT:
                 raise
-            with self.database.transaction(self.plan, True):
-                self.fill()
-                self.refuse_misfits(list(self.misfits()))
-            raise Refused(f"{error.cause}; nothing is changed") from None
+            raise self.explained(error.cause) from None
         for plan in self.plan.tables:
             print(harmless(said_of(plan, comparison.counts[plan.number], self.is_dry)))
             if self.is_dry:
                 print("".join(harmless(line) + "\n" for line in self.samples[plan.number]), end="")
         return int(self.is_dry and self.differs(comparison))
 
-    def fill(self) -> dict[int, int]:
-        """Reads all files into work tables; answers how many rows each has."""
-        rows = {}
-        for plan in self.plan.tables:
-            rows[plan.number] = self.database.fill(plan, self.space.path(plan.set), self.options)
-            self.tell(f"read {plan.table.name}: {rows[plan.number]:,} rows")
+    def done(self) -> Comparison:
+        """Compares and writes; what was found."""
+        try:
+            with self.database.transaction(self.plan, self.is_dry):
+                comparison = self.compared()
+                self.write(comparison)
+        except NotDirect:
+            self.may_be_direct = False
+            return self.done()
+        return comparison
+
+    def explained(self, cause: str) -> Refused:
+        """What is said if the database refuses a value: all that doesn't fit, or else what it said itself."""
+        with self.database.transaction(self.plan, True):
+            for plan in self.plan.tables:
+                self.fill(plan)
+            self.refuse_misfits(list(self.misfits()))
+        return Refused(f"{cause}; nothing is changed")
+
+    def fill(self, plan: TablePlan) -> int:
+        """Reads a file into a work table; answers how many rows it has."""
+        return self.checked(plan, self.database.fill(plan, self.space.path(plan.set), self.options))
+
+    def fill_directly(self, plan: TablePlan) -> int:
+        """Reads a file into its table, which has no rows."""
+        return self.checked(plan, self.database.fill_directly(plan, self.space.path(plan.set), self.options))
+
+    def checked(self, plan: TablePlan, rows: int) -> int:
+        """A number of rows, as it must be by the summary."""
+        self.space.check_count(plan.set, rows)
+        self.tell(f"read {plan.table.name}: {rows:,} rows")
         return rows
+
+    def find_direct(self) -> None:
+        """Finds the tables into which files can go at once: all are empty, and nothing has to be compared."""
+        for plan in self.plan.tables:
+            plan.is_direct = False
+            plan.is_empty = self.database.value(f"SELECT 1 FROM {plan.table.sql} LIMIT 1") is None
+        if self.may_be_direct and not self.plan.misfits and all(plan.is_empty for plan in self.plan.tables):
+            for plan in self.plan.tables:
+                plan.is_direct = self.database.can_fill_directly(plan, self.space.path(plan.set), self.options)
 
     def compared(self) -> Comparison:
         """Stages all tables, refuses what doesn't fit, and compares them."""
-        rows = self.fill()
-        if self.plan.misfits or any(self.database.may_misfit(plan, self.options) for plan in self.plan.tables):
-            self.refuse_misfits(list(self.misfits()))
-        record = Record(self.database, self.given.name)
-        comparison = Comparison(self.database, self.plan, record, self.gone)
-        for plan in self.plan.tables:
-            plan.is_empty = self.database.value(f"SELECT 1 FROM {plan.table.sql} LIMIT 1") is None
+        self.find_direct()
+        staged = [plan for plan in self.plan.tables if not plan.is_direct]
+        rows = {plan.number: self.fill(plan) for plan in staged}
+        if self.plan.misfits or any(self.database.may_misfit(plan, self.options) for plan in staged):
+            raise DoesNotFit("a value doesn't fit")
+        comparison = Comparison(self.database, self.plan, Record(self.database, self.given.name), self.gone)
+        for plan in staged:
             self.database.convert(plan, self.options, self.is_dry)
         if self.identity is not None:
             self.identity.translate(self.is_dry)
-        for plan in self.plan.tables:
+        for plan in staged:
             comparison.compare(plan, rows[plan.number])
             self.tell(f"compared {plan.table.name}")
         comparison.find_referred()
-        for plan in self.plan.tables:
+        for plan in staged:
             comparison.count_extra(plan)
         return comparison
 
@@ -109,7 +141,7 @@ class Load:
         self.check_referred(comparison)
         self.check_numbers(comparison)
         comparison.record.make()
-        Change(comparison, self.tell).write()
+        Change(comparison, self.tell, self.fill_directly).write()
         if self.given.log:
             self.log(comparison)
         if self.crosswalk is not None:

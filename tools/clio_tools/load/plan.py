@@ -29,6 +29,7 @@ class TablePlan:
     key: list[int] | None = None  # the one by which they are; None is the whole row
     is_empty: bool = False  # whether the table has no rows
     mark: Column | None = None  # what is set in rows that the target no longer has
+    is_direct: bool = False  # whether the file goes into the table itself, which has no rows
     is_translated: bool = False  # whether numbers of the crosswalk are replaced by the database's
     numbered: list[int] = field(default_factory=list)  # the places of columns with numbers of the crosswalk
 

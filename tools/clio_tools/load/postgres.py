@@ -5,14 +5,14 @@ import contextlib
 import pathlib
 import re
 from collections.abc import Iterable, Iterator
-from typing import IO
 
-from clio_tools.csv import read_records, read_table
+from clio_tools.csv import read_table
 from clio_tools.databases.postgres import DatabaseError, Session, identifier, pieces_of_file
 from clio_tools.draft import model, postgres
 from clio_tools.load.catalog import (BOOLEAN, DATE, INTEGER, NUMBER, OTHER, TEXT, TIME, Catalog, Column, ForeignKey,
                                      Table)
 from clio_tools.load.database import Cells, Database, Misfit, Options, literal
+from clio_tools.load.postgres_values import altered, plain_pieces, value_of, without_zero
 from clio_tools.load.plan import Plan, TablePlan
 from clio_tools.program import Refused
 
@@ -63,6 +63,7 @@ class Postgres(Database):
         self.connection, self.schema = connection, schema
         self.session = Session(connection, **SETTINGS)
         self.session.run("SET search_path = ''")
+        self.marked_files: set[int] = set()  # the plans in whose files a text begins with ?, as far as that is known
 
     def catalog(self) -> Catalog:
         base = postgres.Base(self.connection, self.schema)
@@ -122,15 +123,39 @@ class Postgres(Database):
         cells = ", ".join(f"c{place} text" for place in range(len(columns)))
         self.run(f"CREATE TEMP TABLE {plan.work('raw')} ({cells})")
         if len(columns) == 1:  # a line \. would end COPY
+            self.marked_files.add(plan.number)
             return self.session.copy_rows_in(plan.work("raw"), read_table(path, columns))
         next(iter(read_table(path, columns)), None)  # the header is as it must be
         names = ", ".join(f"c{place}" for place in range(len(columns)))
         with path.open("rb") as file:
+            pieces = self.watched(plan, without_zero(path, file))
             try:
-                return self.session.copy_in(plan.work("raw"), without_zero(path, file),
-                                            f"FORMAT csv, HEADER, FORCE_NOT_NULL ({names})")
+                return self.session.copy_in(plan.work("raw"), pieces, f"FORMAT csv, HEADER, FORCE_NOT_NULL ({names})")
             except DatabaseError as error:
                 raise Refused(f"out/{path.name} is not as clio writes it: {error.cause}") from None
+
+    def watched(self, plan: TablePlan, pieces: Iterable[bytes]) -> Iterator[bytes]:
+        """The pieces of a file; it is taken down whether there is a ?."""
+        self.marked_files.discard(plan.number)
+        for piece in pieces:
+            if b"?" in piece:
+                self.marked_files.add(plan.number)
+            yield piece
+
+    def can_fill_directly(self, plan: TablePlan, path: pathlib.Path, options: Options) -> bool:
+        if options.null_text is not None or not 1 < len(plan.columns) == len(plan.set.columns):
+            return False
+        with path.open("rb") as file:
+            return not any(b"?" in piece for piece in pieces_of_file(file))
+
+    def fill_directly(self, plan: TablePlan, path: pathlib.Path, options: Options) -> int:
+        texts = ", ".join(identifier(column.name) for column in plan.loaded if column.kind == TEXT)
+        names = ", ".join(identifier(column.name) for column in plan.loaded)
+        form = "FORMAT csv, HEADER" + (f", FORCE_NOT_NULL ({texts})" if texts else "")
+        with path.open("rb") as file:
+            count = self.session.copy_in(f"{plan.table.sql} ({names})", plain_pieces(plan, path, file), form)
+        self.new_of_table(plan)
+        return count
 
     def insert(self, table: str, rows: Iterable[Cells]) -> None:
         self.session.copy_rows_in(table, rows)
@@ -146,15 +171,16 @@ class Postgres(Database):
     def cell(self, plan: TablePlan, number: int, options: Options) -> str:
         """The text of a loaded column in SQL, NULL if there is to be no value."""
         place, column = plan.columns[number]
-        cell = (f"CASE WHEN left(c{place}, 1) <> '?' THEN c{place}"
-                f" WHEN left(c{place}, 2) = '??' THEN substr(c{place}, 2) END")
+        cell = f"c{place}"
+        if plan.number in self.marked_files:
+            cell = (f"CASE WHEN left({cell}, 1) <> '?' THEN {cell}"
+                    f" WHEN left({cell}, 2) = '??' THEN substr({cell}, 2) END")
         if column.kind != TEXT:
             cell = f"nullif({cell}, '')"
         return cell if options.null_text is None else f"nullif({cell}, {literal(options.null_text)})"
 
     def convert(self, plan: TablePlan, options: Options, is_dry: bool) -> None:
-        cells = [self.cell(plan, number, options) + ("" if column.kind == TEXT else f"::{column.type}")
-                 for number, column in enumerate(plan.loaded)]
+        cells = [value_of(self.cell(plan, number, options), column) for number, column in enumerate(plan.loaded)]
         if plan.is_empty and not is_dry and not plan.is_translated:
             made = ", ".join(f"({cell}) AS c{number}" for number, cell in enumerate(cells))
             self.run(f"CREATE TEMP VIEW {plan.work('new')} AS SELECT {made} FROM {plan.work('raw')}")
@@ -167,10 +193,7 @@ class Postgres(Database):
         self.run(f"ANALYZE {plan.work('new')}")
 
     def may_misfit(self, plan: TablePlan, options: Options) -> bool:
-        tests = [test for number, column in enumerate(plan.loaded)
-                 if (test := altered(self.cell(plan, number, options), column))]
-        query = f"SELECT 1 FROM {plan.work('raw')} WHERE {' OR '.join(tests)} LIMIT 1"
-        return bool(tests) and self.value(query) is not None
+        return False  # a value that doesn't fit stops the statement that makes it
 
     def misfits(self, plan: TablePlan, options: Options) -> list[Misfit]:
         found: list[Misfit] = []
@@ -247,25 +270,3 @@ def column_of(words: dict[str, str], cells: list[str | None]) -> Column:
 def listed(names: str | None) -> tuple[str, ...]:
     """The names of a list."""
     return tuple((names or "").split("\x01"))
-
-
-def altered(cell: str, column: Column) -> str | None:
-    """A condition: the type of a column would alter a text without a word, as by rounding it."""
-    size = re.fullmatch(r"(character varying|character)\((\d+)\)( COLLATE .*)?", column.type)
-    if size:
-        return f"char_length({cell}) > {size[2]}"
-    if column.type.startswith("numeric("):
-        return f"({cell})::numeric <> ({cell})::{column.type}"
-    if column.kind == DATE:
-        return f"(char_length({cell}) > 10 AND ({cell})::timestamp <> ({cell})::date)"
-    return None
-
-
-def without_zero(path: pathlib.Path, file: IO[bytes]) -> Iterator[bytes]:
-    """A file in pieces; a text with a byte 0 is refused by its record."""
-    for piece in pieces_of_file(file):
-        if b"\0" in piece:
-            number = next(number for number, row in enumerate(read_records(path)) if "\0" in "".join(row))
-            raise Refused(f"out/{path.name}: record {number}: a text has a byte 0, and a database would cut or refuse "
-                          f"it")
-        yield piece

@@ -43,7 +43,7 @@ class Record:
 
     def count(self, plan: TablePlan) -> int:
         """How many rows of a table are in the record."""
-        return self.database.count(f"SELECT count(*) FROM ({self.rows_of(plan, '=')}) AS w")
+        return self.database.count(f"SELECT count(*) FROM {self.sql} AS w WHERE {self.of_table(plan, 'w')}")
 
     def add(self, plan: TablePlan, keys: str) -> None:
         """Adds the keys that a query has as m."""

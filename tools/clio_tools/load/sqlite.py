@@ -13,7 +13,7 @@ from clio_tools.csv import read_table
 from clio_tools.draft import model, sqlite
 from clio_tools.load.catalog import (BOOLEAN, DATE, INTEGER, NUMBER, OTHER, TEXT, TIME, Catalog, Column, ForeignKey,
                                      Table)
-from clio_tools.load.database import Cells, Database, Misfit, Options, identifier, literal
+from clio_tools.load.database import Cells, Database, DoesNotFit, Misfit, Options, identifier, literal
 from clio_tools.load.plan import Plan, TablePlan
 from clio_tools.program import Refused, stop_by_exception
 
@@ -56,6 +56,8 @@ class Sqlite(Database):
         """What SQLite refuses is told as a refusal."""
         try:
             yield
+        except sqlite3.IntegrityError as error:
+            raise DoesNotFit(f"{self.path}: SQLite: {error}") from None
         except sqlite3.Error as error:
             busy = ": somebody else has it locked; try again" if "locked" in str(error) else ""
             raise Refused(f"{self.path}: SQLite: {error}{busy}; nothing is changed") from None
@@ -143,14 +145,28 @@ class Sqlite(Database):
             raise Refused(f"{self.path}: SQLite: {error}; nothing is changed") from None
 
     def fill(self, plan: TablePlan, path: pathlib.Path, options: Options) -> int:
-        columns = plan.loaded
-        cells = ", ".join(f"c{place} {affinity(column)}" for place, column in enumerate(columns))
+        cells = ", ".join(f"c{place} {affinity(column)}" for place, column in enumerate(plan.loaded))
         self.run(f"CREATE TEMP TABLE {plan.work('new')} ({cells})")
-        marks = ", ".join("?" * len(columns))
+        return self.read(plan.work("new"), plan, path, options)
+
+    def read(self, into: str, plan: TablePlan, path: pathlib.Path, options: Options) -> int:
+        """Reads a file into a table."""
         makers = [(place, maker(column, options)) for place, column in plan.columns]
         rows = ([make(row[place]) for place, make in makers] for row in checked(path, plan))
         with self.told():
-            return self.base.executemany(f"INSERT INTO {plan.work('new')} VALUES ({marks})", rows).rowcount
+            marks = ", ".join("?" * len(makers))
+            return max(self.base.executemany(f"INSERT INTO {into} VALUES ({marks})", rows).rowcount, 0)
+
+    def can_fill_directly(self, plan: TablePlan, path: pathlib.Path, options: Options) -> bool:
+        return True
+
+    def fill_directly(self, plan: TablePlan, path: pathlib.Path, options: Options) -> int:
+        names = ", ".join(identifier(column.name) for column in plan.loaded)
+        count = self.read(f"{plan.table.sql} ({names})", plan, path, options)
+        self.new_of_table(plan)
+        if self.may_misfit(plan, options):
+            raise DoesNotFit(f"{self.path}: a value doesn't fit")
+        return count
 
     def insert(self, table: str, rows: Iterable[Cells]) -> None:
         listed = list(rows)

@@ -13,12 +13,11 @@ import tempfile
 from collections.abc import Iterable
 from typing import NoReturn
 
-from clio_tools.csv import read_table
 from clio_tools.ids.crosswalk import Crosswalk
 from clio_tools.ids.numbering import check_whole, prepared
 from clio_tools.ids.target import is_renamed
 from clio_tools.mapping.text import Mapping, Set
-from clio_tools.program import Refused, harmless, program
+from clio_tools.program import Refused, counted, harmless, program
 from clio_tools.tables.command import read_summary
 
 AGAIN = "run clio exchange again"
@@ -48,6 +47,7 @@ class Workspace:
         self.kept = tempfile.TemporaryDirectory(prefix="clio-load.")
         self.folder = pathlib.Path(self.kept.name)
         self.digests: dict[str, bytes] = {}
+        self.counts: dict[str, int] = {}  # rows of files, by the summary
         for path in sources_of(mapping):
             (self.folder / path).symlink_to(path.resolve())
 
@@ -77,13 +77,15 @@ class Workspace:
             if name not in counts:
                 raise Refused(f"the summary has no {name}: it is of another mapping")
             (self.out / name).symlink_to(path.resolve())
+        self.counts = counts
         self.check_rules()
-        for one in self.mapping.target:
-            rows = sum(map(bool, read_table(out / f"{one.name}.csv", one.columns)))
-            if rows != counts[f"{one.name}.csv"]:
-                raise Refused(f"{out / one.name}.csv has {rows} rows, and the summary says "
-                              f"{counts[f'{one.name}.csv']}: it was cut or"
-                              f" changed, so {AGAIN}")
+
+    def check_count(self, one: Set, rows: int) -> None:
+        """Refuses a file with other rows than its summary says."""
+        count = self.counts.get(f"{one.name}.csv", rows)
+        if rows != count:
+            raise Refused(f"out/{one.name}.csv has {counted(rows, 'row')}, and the summary says {count}: it was cut or "
+                          f"changed, so {AGAIN}")
 
     def check_rules(self) -> None:
         """The rules of the files are those of the mapping."""

@@ -1,0 +1,71 @@
+"""What PostgreSQL's types make of texts, and what they would alter without a word, as by rounding it."""
+from __future__ import annotations
+
+import itertools
+import pathlib
+import re
+from collections.abc import Iterator
+from typing import IO
+
+from clio_tools.csv import read_records, read_table
+from clio_tools.databases.postgres import pieces_of_file
+from clio_tools.load.catalog import DATE, TEXT, Column
+from clio_tools.load.database import NotDirect
+from clio_tools.load.plan import TablePlan
+from clio_tools.program import Refused
+
+SIZED = re.compile(r"(character varying|character)\((\d+)\)( COLLATE .*)?")
+SCALED = re.compile(r"numeric\(\d+,(\d+)\)")
+
+
+def altered(cell: str, column: Column) -> str | None:
+    """A condition: the type of a column would alter a text without a word, as by rounding it."""
+    if size := SIZED.fullmatch(column.type):
+        return f"char_length({cell}) > {size[2]}"
+    if column.type.startswith("numeric("):
+        return f"({cell})::numeric <> ({cell})::{column.type}"
+    if column.kind == DATE:
+        return f"CASE WHEN char_length({cell}) > 10 THEN ({cell})::timestamp <> ({cell})::date END"
+    return None
+
+
+def value_of(cell: str, column: Column) -> str:
+    """A value of a column in SQL; a text that would be altered becomes one that PostgreSQL refuses."""
+    loses = altered(cell, column)
+    value = cell if column.kind == TEXT else f"({cell})::{column.type}"
+    if loses is None:
+        return value
+    wrong = f"{cell} || repeat('!', char_length({cell}))" if column.kind == TEXT else f"('!' || {cell})::{column.type}"
+    return f"CASE WHEN {loses} THEN {wrong} ELSE {value} END"
+
+
+def plain(column: Column) -> re.Pattern[str] | None:
+    """A form of texts that the type of a column doesn't alter; nothing if it alters none."""
+    if size := SIZED.fullmatch(column.type):
+        return re.compile(f".{{0,{size[2]}}}", re.DOTALL)
+    if scale := SCALED.fullmatch(column.type):
+        return re.compile(f"(-?[0-9]+(\\.[0-9]{{0,{scale[1]}}})?)?")
+    return re.compile(".{0,10}", re.DOTALL) if column.kind == DATE else None
+
+
+def plain_pieces(plan: TablePlan, path: pathlib.Path, file: IO[bytes]) -> Iterator[bytes]:
+    """A file in pieces; while the server reads them, texts that may be altered are looked for."""
+    rows = iter(read_table(path, plan.set.columns))
+    forms = [(place, form) for place, column in plan.columns if (form := plain(column))]
+    for piece in without_zero(path, file):
+        yield piece
+        for row in itertools.islice(rows, piece.count(b"\n") if forms else 1):
+            if not all(form.fullmatch(row[place]) for place, form in forms):
+                raise NotDirect
+    if forms and not all(form.fullmatch(row[place]) for row in rows for place, form in forms):
+        raise NotDirect
+
+
+def without_zero(path: pathlib.Path, file: IO[bytes]) -> Iterator[bytes]:
+    """A file in pieces; a text with a byte 0 is refused by its record."""
+    for piece in pieces_of_file(file):
+        if b"\0" in piece:
+            number = next(number for number, row in enumerate(read_records(path)) if "\0" in "".join(row))
+            raise Refused(f"out/{path.name}: record {number}: a text has a byte 0, and a database would cut or refuse "
+                          f"it")
+        yield piece
