@@ -73,7 +73,7 @@ class Chromium:
             message["sessionId"] = self.session
         os.write(self.writing, json.dumps(message).encode() + b"\0")
         while True:
-            answer = self.message(60)
+            answer = self.message(120)
             if answer.get("id") == self.number:
                 if "error" in answer:
                     raise Failed(f"{method}: {answer['error'].get('message')}")
@@ -107,7 +107,7 @@ class Chromium:
             raise Failed(f"{script[:100]}: {answer['exceptionDetails'].get('exception', {}).get('description')}")
         return answer["result"].get("value")
 
-    def until(self, script: str, seconds: float = 30) -> None:
+    def until(self, script: str, seconds: float = 60) -> None:
         """Waits until a script is true."""
         end = time.monotonic() + seconds
         while not self.js(f"Boolean({script})"):

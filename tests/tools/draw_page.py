@@ -40,7 +40,7 @@ class Page(unittest.TestCase):
         self.address = self.server.stdout.readline().strip()
         self.browser.events.clear()
         self.browser.go(self.address)
-        self.browser.until("globalThis.clioDraw && clioDraw.model.live !== null", 60)
+        self.browser.until("globalThis.clioDraw && clioDraw.model.live !== null", 120)
 
     def leave(self) -> None:
         """Ends the page and its server."""
@@ -76,7 +76,7 @@ class Page(unittest.TestCase):
 
     def settled(self) -> None:
         """Waits until the last text has had its live run."""
-        self.browser.until("clioDraw.model.liveText === clioDraw.model.text && clioDraw.model.current", 60)
+        self.browser.until("clioDraw.model.liveText === clioDraw.model.text && clioDraw.model.current", 120)
 
     def choose(self, selector: str, value: str) -> None:
         """Chooses from a list."""

@@ -6,9 +6,8 @@ from typing import NamedTuple
 
 from .change import CannotEdit
 from .checked import checked
-from .drafting import FOLDER as DRAFTED
 from .edits import edited
-from .folder import CannotRead, CannotSave, ChangedOnDisk, Folder
+from .folder import DRAFTED, CannotRead, CannotSave, ChangedOnDisk, Folder
 from .helper import Helper
 from .outline import Data, as_data
 from .units import Units

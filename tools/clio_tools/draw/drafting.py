@@ -8,10 +8,10 @@ from ..draft.data import Written
 from ..draft.model import Side
 from ..draft.text import side_text
 from ..program import Refused
+from .folder import DRAFTED
 from .outline import Data
 
 KINDS = ("sqlite", "postgres", "csv", "json")
-FOLDER = "drafted"  # where the data is, in the folder of the worker
 
 
 def drafted(kind: str, place: str, schema: str, side: str, drawing: bool, data: bool, folder: pathlib.Path) -> Data:
@@ -24,9 +24,9 @@ def drafted(kind: str, place: str, schema: str, side: str, drawing: bool, data: 
     base, sources = opened(argparse.Namespace(kind=kind, place=where, schema=schema or "public", delimiter=","))
     made = Side(side, base.tables(), drawing)
     remarks: list[str] = []
-    shutil.rmtree(FOLDER, ignore_errors=True)
+    shutil.rmtree(DRAFTED, ignore_errors=True)
     if data and side == "source":
-        written = Written(FOLDER, sources, remarks.append)
+        written = Written(DRAFTED, sources, remarks.append)
         wanted = wanted_sets(base, made, None)
         write_data(base, wanted, written)
         written.check_limits()

@@ -10,6 +10,7 @@ from ..safe_files import Fresh
 from .outline import Outline
 
 MAPPING, DRAWING = "mapping.clio", "drawing.clio"
+DRAFTED = "drafted"  # the folder in that of a worker in which the files of a draft are
 MOST_BYTES = 1 << 20  # clio reads no longer text
 EMPTY = "mapping 1;\nsource {\n}\ntarget {\n}\n"
 ABSENT = "absent"
