@@ -6,6 +6,7 @@ from drawing_cases import cases
 from drawing_trial import clio, lines_alone
 from trial import Trial
 
+from clio_tools.explain.drawn import with_drawing
 from clio_tools.explain.endings import explained
 
 
@@ -137,6 +138,17 @@ rule f(x = v) -> stop(x = v), leg(x = v), stop(x = "s");
         self.file("given/leg.csv", "x\n1\n")
         said = self.tool("clio-explain", "judge")[2]
         self.assertIn("rule 0 is of drawing.clio: a rule of the drawing\nclio-explain:    line 8: rule f(x = v) -> ", said)
+
+    def test_numbers_of_other_rules(self) -> None:
+        """Those of the other mapping of a comparison, and those before any rule is left out, are no numbers of these."""
+        before = os.getcwd()
+        self.addCleanup(os.chdir, before)
+        os.chdir(self.folder)
+        content = (self.folder / "mapping.clio").read_bytes()
+        for line in ("rule 1 of other.clio doesn't follow from mapping.clio", "rule 1 (before any is left out) has"):
+            self.assertEqual(list(with_drawing([line], "", content)), [line])
+        self.assertEqual(len(list(with_drawing(["rule 1 of mapping.clio"], "rules 0, 1", content))), 1 + 3 + 3)
+        os.chdir(before)
 
     def test_another_drawing(self) -> None:
         content = (self.folder / "drawing.clio").read_text().replace("rows stop from p;  // each place\n", "")

@@ -14,7 +14,8 @@ from clio_tools.rules.ways import Wrong
 
 MOST = 20  # rules, and statements of each
 PRINTED = re.compile(rb"// Printed by clio-rules from ([\w.-]+): ")
-NAMED = re.compile(r"\brules? ([0-9]+(?:, [0-9]+)*(?: and [0-9]+)?)\b(?! of other[.]clio)")
+# not those of another mapping, nor those with the numbers of rules before any is left out
+NAMED = re.compile(r"\brules? ([0-9]+(?:, [0-9]+)*(?: and [0-9]+)?)\b(?! of other[.]clio| \(before)")
 
 
 def with_drawing(lines: Iterable[str], message: str, content: Optional[bytes]) -> Iterator[str]:
