@@ -13,6 +13,7 @@ from typing import Any
 import draw_trial
 from trial import PROGRAM, TIMES
 
+from clio_tools.draw.edits import edited
 from clio_tools.draw.faults import place_of
 from clio_tools.draw.outline import Outline
 from clio_tools.draw.worker import Worker
@@ -112,6 +113,43 @@ class Live(unittest.TestCase):
         self.assertEqual([one["where"] for one in reason["cells"]],
                          ["flight.csv line 2", "port.csv line 2", "port.csv line 3"])
         self.assertEqual([one["line"] for one in reason["cells"]], [0, 1, 2])
+
+    def test_rules_of_sets_without_notes_come_first(self) -> None:
+        folder = draw_trial.EXAMPLES / "teams"
+        text = (folder / "mapping.clio").read_text() + "rows team from dept;\nrule dept(d, c) -> person(d, c, t);\n"
+        made = Asked(folder).live(text)
+        self.assertIsNone(made["fault"])
+        rules = [(rule["rows"], rule["by_hand"], rule["words"]["made"][0]["set"]) for rule in made["rules"]]
+        self.assertEqual(rules, [(None, False, "person"), (0, False, "team"), (None, True, "person")])
+        self.assertEqual(made["rules"][1]["words"]["lines"], [1, 2])
+
+    def test_sets_are_offered_whose_rows_are_missing(self) -> None:
+        folder = draw_trial.EXAMPLES / "teams"
+        text = (folder / "mapping.clio").read_text() + "rows person from emp;\n"
+        cures = Asked(folder).live(text)["fault"]["cures"]
+        self.assertEqual([one["title"] for one in cures], ["rows team from dept"])
+        text = edited(text, cures[0]["action"])[0]
+        cures = Asked(folder).live(text)["fault"]["cures"]
+        self.assertEqual([one["title"] for one in cures], ["key (name) of person", "rows person from emp with dept"])
+        for cure in cures:
+            for step in self.cured(folder, edited(text, cure["action"])[0], 3):
+                self.assertIsNone(step)
+
+    def cured(self, folder: pathlib.Path, text: str, steps: int) -> list[object]:
+        """The faults that are left when each fault was answered by each of its cures, so many times at most."""
+        fault = Asked(folder).live(text)["fault"]
+        if fault is None or not steps:
+            return [fault]
+        self.assertTrue(fault["cures"], fault)
+        return [one for cure in fault["cures"]
+                for one in self.cured(folder, edited(text, cure["action"])[0], steps - 1)]
+
+    def test_rows_of_nothing_but_nulls_are_marked(self) -> None:
+        folder = draw_trial.copy_of("teams")
+        text = (folder / "mapping.clio").read_text()
+        made = Asked(folder).live(text[:text.index("line dept.dname")])
+        self.assertEqual(made["tables"]["team"]["empty"], [0, 1])
+        self.assertEqual(made["tables"]["person"]["empty"], [])
 
     def test_samples_keep_links(self) -> None:
         folder = draw_trial.room()

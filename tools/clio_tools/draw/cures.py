@@ -12,6 +12,8 @@ WAYS = re.compile(r"several ways lead from \w+ to \w+ for [\w.]+: say which, (.*
 WAY = re.compile(r"by ((?:\([\w, ]+\)|\w+)(?:\.(?:\([\w, ]+\)|\w+))*)")
 LINE = re.compile(r"line (\w+) -> (\w+)\.(\w+) by ([^;]+);")
 ROWS = re.compile(r"rows (\w+) from (\w+);")
+KEYLESS = re.compile(r"give set (\w+) a key(?:, or write `with ([^`]+)`)?")
+REFERRED = re.compile(r"(\w+)\.(\w+) leads to .*: give set (\w+) key \(([^)]*)\);")
 REF = re.compile(r"ref \(([^)]*)\) -> (\w+) \(([^)]*)\) of (\w+)")
 MOST = 8  # cures that are offered of one fault
 
@@ -25,9 +27,36 @@ def of_fault(fault: Fault, outline: Outline) -> list[Data]:
         _cure(f"line {one[0]} -> {one[1]}.{one[2]} by {one[3]}",
               {"do": "add_line", "source": {"columns": [[one[0], None]], "by": [one[3]]}, "target": [one[1], one[2]]})
         for one in LINE.findall(fault.said) if one[3] != "COLUMN"]
-    cures += [_cure(f"rows {target} from {source}", {"do": "add_rows", "target": target, "source": source})
-              for target, source in ROWS.findall(fault.said) if source != "SET"]
+    for target, source in ROWS.findall(fault.said):
+        for name in _sources(target, outline) if source == "SET" else [source]:
+            cures.append(_cure(f"rows {target} from {name}", {"do": "add_rows", "target": target, "source": name}))
+    for target, way in KEYLESS.findall(fault.said):
+        cures += [*_keys(target, outline), *_with(target, way, fault, outline)]
+    for name, column, target, columns in REFERRED.findall(fault.said):
+        cures.append(_cure(f"key ({columns}) of {target}",
+                           _clause("target", target, {"kind": "key", "columns": columns.split(", ")})))
+        cures += [_optional("target", one, number) for one in outline.side("target") if one.name.text == name
+                  for number, ref in enumerate(one.refs) if column in [word.text for word in ref.columns]]
     return cures[:MOST]
+
+
+def _with(target: str, way: str, fault: Fault, outline: Outline) -> Iterator[Data]:
+    """The `rows` of a target set, only with what a way leads to; if there are several, that of the fault."""
+    found = [(number, one) for number, one in enumerate(outline.tree.rows) if one.target.text == target]
+    for number, one in found if way else []:
+        if len(found) == 1 or one.target.start == fault.start:
+            musts = [outline.text(tree.Part(each[0].start, each[-1].end)) for each in one.musts]
+            by, where = ([outline.text(tree.Part(part[0].start, part[-1].end))] if part else [""]
+                         for part in (one.by, one.tests))
+            asked: Data = {"source": one.source.text, "by": by[0], "where": where[0], "with": ", ".join([*musts, way])}
+            yield _cure(f"rows {target} from {one.source.text} with {asked['with']}",
+                        {"do": "change_rows", "index": number, "asked": asked})
+
+
+def _sources(target: str, outline: Outline) -> list[str]:
+    """The source sets from which lines go to a target set."""
+    lines = [line for line in outline.tree.lines if line.target.set.text == target]
+    return list(dict.fromkeys(one.set.text for line in lines for one in line.arguments))
 
 
 def _cure(title: str, action: Data) -> Data:

@@ -3,9 +3,9 @@ from dataclasses import dataclass, field, replace
 
 from ..mapping import tree
 from ..mapping.meaning import Mapping, mapping_of_tree
+from ..mapping.parser import parse
 from ..mapping.places import Fault
 from ..program import Refused
-from ..rules.lines_alone import rules_without_notes
 from ..rules.model import Drawing
 from ..rules.printed import Printed
 from ..rules.saying import said
@@ -49,12 +49,13 @@ def meant(content: bytes) -> Meant:
     try:
         drawing = worked_out(content)
         made = Printed(drawing)
-        plain = len(rules_without_notes(drawing))
     except Faulty as why:
         return Meant(content, True, faults=tuple(why.faults))
     except Wrong as why:
         return Meant(content, True, faults=(why.fault,))
-    return Meant(made.text.encode(), True, made.sets.files(), made.sets.links(), plain, tuple(_behind(drawing)),
+    text = made.text.encode()
+    plain = len(parse(text).tree.rules) - len(drawing.made) - len(drawing.tree.rules)
+    return Meant(text, True, made.sets.files(), made.sets.links(), plain, tuple(_behind(drawing)),
                  tuple(drawing.remarks))
 
 
