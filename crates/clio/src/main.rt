@@ -49,7 +49,7 @@ fn first_block(alloc: Global) -> Result<Vec<u8>, AllocError>
 
 // The words after the program's name. If one of them is no text, the list is the empty word alone, which no
 // command has.
-fn words(rt: &(impl Env + AllocGlobal)) -> io::Result<Vec<Text>> {
+fn words(rt: &(impl Env + AllocGlobal)) -> Result<Vec<Text>, AllocError> {
     let alloc = rt.alloc();
     let mut words = Vec::new(alloc);
     match env::args(rt) {
@@ -58,7 +58,7 @@ fn words(rt: &(impl Env + AllocGlobal)) -> io::Result<Vec<Text>> {
                 words.push(Text::from_string(alloc, word)?)?;
             }
         }
-        Err(error) if error.kind() == io::ErrorKind::OutOfMemory => return Err(error),
+        Err(error) if error.kind() == io::ErrorKind::OutOfMemory => return Err(AllocError),
         Err(_) => words.push(Text::from_str(alloc, "")?)?,
     }
     Ok(words)
@@ -85,7 +85,7 @@ fn ended(rt: &(impl Eprint + AllocGlobal), ending: Ending) -> ExitCode
 }
 
 // The status of a run that had no memory to begin. Nothing is printed.
-fn no_memory() -> ExitCode
+fn no_memory(_: AllocError) -> ExitCode
     ensures { exit_status result ≡ status_of Memory }
 {
     ExitCode::from(9)
@@ -135,11 +135,13 @@ fn run_shipped<I: Inputs, O: Outputs>(
         (O.state outputs.old) (O.state outputs.new) (O.faults outputs.old) (O.faults outputs.new) }
 {
     let alloc = rt.alloc();
-    let Ok(list) = shipped_list(alloc) else {
-        return no_memory();
+    let list = match shipped_list(alloc) {
+        Ok(list) => list,
+        Err(error) => return no_memory(error),
     };
-    let Ok(listed) = shipped_tests(alloc) else {
-        return no_memory();
+    let listed = match shipped_tests(alloc) {
+        Ok(listed) => listed,
+        Err(error) => return no_memory(error),
     };
     let conversions = |code: u32, args: &Items<Text>| -> Result<Text, AllocError>
         requires { IsListed shipped_conversions code (length args.now) }
@@ -156,8 +158,9 @@ fn run_shipped<I: Inputs, O: Outputs>(
 
 fn main(rt: HostRuntime) -> ExitCode {
     let _ = first_block(rt.alloc());
-    let Ok(words) = words(&rt) else {
-        return no_memory();
+    let words = match words(&rt) {
+        Ok(words) => words,
+        Err(error) => return no_memory(error),
     };
     let mut inputs = FolderInputs::new(&rt);
     let mut outputs = FolderOutputs::new(&rt, process::id(rt.process()));

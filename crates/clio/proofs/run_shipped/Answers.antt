@@ -6,8 +6,8 @@ pub returns : goal.returns
 returns g c =
     exits _ _ _ _ _ _ _ _ _ _ (c.build-host.ensures.offered ∙ c.in-Ok.ensures.list) (c.build-tests.ensures.tested ∙ c.in-Ok-shipped_tests.ensures.list) c.run_over.ensures
 
-pub returns-in_default : goal.returns-in_default
-returns-in_default g c = without_memory _ _ _ _ _ c.no_memory.ensures
+pub returns-in-Err : goal.returns-in-Err
+returns-in-Err g c = without_memory _ _ _ _ _ c.no_memory.ensures
 
-pub returns-in_default-shipped_tests : goal.returns-in_default-shipped_tests
-returns-in_default-shipped_tests g c = without_memory _ _ _ _ _ c.no_memory-in_default-shipped_tests.ensures
+pub returns-in-Err-shipped_tests : goal.returns-in-Err-shipped_tests
+returns-in-Err-shipped_tests g c = without_memory _ _ _ _ _ c.no_memory-in-Err-shipped_tests.ensures
