@@ -12,7 +12,8 @@ import traceback
 from collections.abc import Sequence
 from typing import IO
 
-for module in "draft.postgres", "draft.sqlite", "tables.bases", "sql.command":
+for module in ("draft.postgres", "draft.sqlite", "tables.bases", "sql.command", "load.command", "load.postgres",
+               "load.sqlite"):
     importlib.import_module(f"clio_tools.{module}")
 
 TOOLS = pathlib.Path(__file__).resolve().parent.parent.parent / "tools"

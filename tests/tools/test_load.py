@@ -12,7 +12,6 @@ import time
 import unittest
 
 import server
-from clio_tools.load import command, postgres, sqlite  # noqa: F401  pylint: disable=unused-import
 from forked import ended
 from trial import TOOLS, Trial
 from warehouse import FIRST, NAMES, Base, PostgresBase, Source, SqliteBase, changed, locked, write_source

@@ -15,7 +15,6 @@ import tempfile
 import unittest
 
 import server
-from clio_tools.load import command, postgres, sqlite  # noqa: F401  pylint: disable=unused-import
 from forked import ended
 from warehouse import FIRST, Base, PostgresBase, Source, SqliteBase, write_source
 
