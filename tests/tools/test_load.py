@@ -358,6 +358,21 @@ class Common(Loads):
         self.refused("clio-load", *self.base.words, "--key", "nobody=mail", why="no such table")
         self.refused("clio-load", *self.base.words, "--key", "town=tid", why="gives no column tid")
 
+    def test_other_key(self) -> None:
+        """Rows that were matched by another key are still those that loads wrote."""
+        mapping = "mapping 1; source { set part { no, slot; } } target { set category { kid, name; key (kid); } } " \
+                  "rule part(n, s) -> category(n, s);"
+        self.file("mapping.clio", mapping)
+        self.file("part.csv", "no,slot\n1,a\n2,b\n")
+        self.base.run("INSERT INTO category VALUES (9, 'own')")
+        self.printed("clio-load", *self.base.words)
+        self.file("part.csv", "no,slot\n1,a\n")
+        self.printed("clio-load", *self.base.words, "--delete", "--key", "category=name")
+        self.assertEqual(self.base.all("SELECT kid, name FROM {0}category"), [("1", "a"), ("9", "own")])
+        self.file("part.csv", "no,slot\n")
+        self.printed("clio-load", *self.base.words, "--delete")
+        self.assertEqual(self.base.all("SELECT kid, name FROM {0}category"), [("9", "own")])
+
     def test_identity(self) -> None:
         """With --identity a town that is there keeps its number, new ones get the next, and the crosswalk keeps all."""
         self.base.run("INSERT INTO country VALUES ('AT'), ('DE'); INSERT INTO town (name, iso) VALUES ('Graz', 'AT'), "
@@ -536,6 +551,33 @@ class OnPostgres(Common):
         for part in ('column price is "2.505"', 'column name is "A town with', 'column born is "1980-02-29 10:00"',
                      "3 misfits"):
             self.assertIn(part, said)
+
+    def test_partitions(self) -> None:
+        """Rows of a table in parts have no places of their own, so without a key they can't be told apart."""
+        self.base.run("CREATE TABLE part (a TEXT, b INTEGER) PARTITION BY LIST (a); CREATE TABLE part1 PARTITION OF "
+                      "part"
+                      " FOR VALUES IN ('x'); CREATE TABLE part2 PARTITION OF part FOR VALUES IN ('y')")
+        self.file("mapping.clio", "mapping 1; source { set s { a, b; } } target { set part { a, b; } } rule s(x, y) -> "
+                                  "part(x, y);")
+        self.file("s.csv", "a,b\nx,1\ny,1\n")
+        self.refused("clio-load", *self.base.words, why='table "part" has no key with a value in each row')
+        self.printed("clio-load", *self.base.words, "--key", "part=a,b")
+        self.file("s.csv", "a,b\ny,1\n")
+        self.printed("clio-load", *self.base.words, "--key", "part=a,b", "--delete")
+        self.assertEqual(self.base.rows("SELECT a, b FROM part"), [("y", "1")])
+
+    def test_circle(self) -> None:
+        """Foreign keys in a circle that can be deferred are."""
+        self.base.run("CREATE TABLE one (a TEXT PRIMARY KEY, b TEXT); CREATE TABLE two (b TEXT PRIMARY KEY, a TEXT "
+                      "REFERENCES one"
+                      " DEFERRABLE); ALTER TABLE one ADD FOREIGN KEY (b) REFERENCES two DEFERRABLE")
+        self.file("mapping.clio", "mapping 1; source { set s { a, b; } } target { set one { a, b; key (a); } set two { "
+                                  "b, a; key (b); } }"
+                                  " rule s(x, y) -> one(x, y), two(y, x);")
+        for rows in "x,u\ny,v\n", "y,w\nz,u\n", "":
+            self.file("s.csv", "a,b\n" + rows)
+            self.printed("clio-load", *self.base.words, "--delete")
+            self.assertEqual(["".join(f"{a},{b}\n" for a, b in self.base.rows("SELECT a, b FROM one"))], [rows])
 
     def test_schema(self) -> None:
         """A schema that is not there is refused."""

@@ -65,6 +65,7 @@ class Comparison:
         if plan.is_empty:
             counts.inserted = rows
             return
+        self.record.rekey(plan)
         run = self.database.run
         if plan.key is None:
             run(self.numbered_rows(plan))
@@ -95,6 +96,10 @@ class Comparison:
                 break
         if plan.key is not None:
             self.check_key(plan, plan.key)
+        elif not plan.table.has_places:
+            raise Refused(f"table {shown(plan.table.name)} has no key with a value in each row, and its rows can't be "
+                          f"told apart: name"
+                          f" one by --key {plan.set.name}=..")
 
     def check_key(self, plan: TablePlan, key: list[int]) -> None:
         """Refuses rows of the target that are one by the key, as 1 and 01 are in a column of numbers."""

@@ -37,6 +37,8 @@ COLUMNS = """SELECT c.relname, a.attname, pg_catalog.format_type(a.atttypid, a.a
  JOIN pg_catalog.pg_type t ON t.oid = a.atttypid LEFT JOIN pg_catalog.pg_type b ON b.oid = t.typbasetype
  WHERE n.nspname = %s AND a.attnum > 0 AND NOT a.attisdropped AND c.relkind IN ('r', 'p', 'f') ORDER BY c.relname,
  a.attnum"""
+PLAIN = """SELECT c.relname FROM pg_catalog.pg_class c JOIN pg_catalog.pg_namespace n ON n.oid = c.relnamespace
+ WHERE n.nspname = %s AND c.relkind = 'r' AND NOT c.relhassubclass"""  # whose rows have places of their own
 NAMES = """(SELECT pg_catalog.string_agg(a.attname, E'\\x01' ORDER BY k.place)
  FROM pg_catalog.unnest({0}) WITH ORDINALITY AS k (number, place)
  JOIN pg_catalog.pg_attribute a ON a.attrelid = {1} AND a.attnum = k.number)"""
@@ -74,8 +76,9 @@ class Postgres(Database):
         for table, *rest in self.session.rows(COLUMNS, self.schema):
             if table in words:
                 found.setdefault(str(table), []).append(column_of(words[str(table)], rest))
+        plain = set(self.session.column(PLAIN, self.schema))
         tables = [Table(table.name, table.word, self.sql(self.schema, table.name), found[table.name],
-                        [list(key) for key in table.keys])
+                        [list(key) for key in table.keys], table.name in plain)
                   for table in side.tables if table.name in found]
         keys = [ForeignKey(self.sql(str(schema), str(child)), listed(columns), self.sql(self.schema, str(parent)),
                            listed(referred))
@@ -110,7 +113,7 @@ class Postgres(Database):
                 self.run(f"SET LOCAL lock_timeout = '{WAIT}'")
                 tables = ", ".join(sorted(one.table.sql for one in plan.tables))
                 if tables:
-                    self.run(f"LOCK TABLE {tables} IN SHARE ROW EXCLUSIVE MODE")
+                    self.run(f"LOCK TABLE {tables} IN SHARE ROW EXCLUSIVE MODE; SET CONSTRAINTS ALL DEFERRED")
                 yield
         except DatabaseError as error:
             if error.sqlstate in LOCKED:

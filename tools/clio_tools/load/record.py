@@ -7,7 +7,7 @@ from __future__ import annotations
 
 import json
 
-from clio_tools.load.database import Database, literal
+from clio_tools.load.database import Database, identifier, literal
 from clio_tools.load.plan import TablePlan
 
 WRITTEN = "written"
@@ -44,6 +44,26 @@ class Record:
     def count(self, plan: TablePlan) -> int:
         """How many rows of a table are in the record."""
         return self.database.count(f"SELECT count(*) FROM {self.sql} AS w WHERE {self.of_table(plan, 'w')}")
+
+    def rekey(self, plan: TablePlan) -> None:
+        """Has the entries of a table that have another key, as that of an earlier mapping, take the one of now."""
+        if self.sql is None or plan.key is None:
+            return
+        table = (f"load = {literal(self.name)} AND table_name = {literal(plan.table.sql)}"
+                 f" AND key_columns <> {self.by(plan)}")
+        if self.database.value(f"SELECT 1 FROM {self.sql} WHERE {table} LIMIT 1") is None:
+            return
+        for text, in self.database.rows(f"SELECT DISTINCT key_columns FROM {self.sql} WHERE {table}"):
+            names = [] if str(text).endswith(" whole") else json.loads(str(text))
+            if names and all(plan.table.column(name) for name in names):
+                now, before = (self.database.key_text([f"t.{identifier(name)}" for name in listed])
+                               for listed in (plan.key_names(), names))
+                self.database.run(f"INSERT INTO {self.sql} (load, table_name, key_columns, row_key) SELECT r.load,"
+                                  f" r.table_name, {self.by(plan)}, {now} FROM {self.sql} AS r JOIN {plan.table.sql} "
+                                  f"AS t"
+                                  f" ON r.row_key = {before} WHERE r.load = {literal(self.name)} AND r.table_name ="
+                                  f" {literal(plan.table.sql)} AND r.key_columns = {literal(str(text))}")
+        self.database.run(f"DELETE FROM {self.sql} WHERE {table}")
 
     def add(self, plan: TablePlan, keys: str) -> None:
         """Adds the keys that a query has as m."""
