@@ -4,6 +4,7 @@ from __future__ import annotations
 import contextlib
 import csv
 import os
+import resource
 import signal
 import sqlite3
 import subprocess
@@ -500,6 +501,23 @@ class OnSqlite(Common):
             self.refused("clio-load", *self.base.words, "--ids", "ids.db", "--delete",
                          why="somebody else has it locked; try again; nothing is changed")
         self.assertEqual(path.read_bytes(), content)
+
+    def test_full(self) -> None:
+        """A database that can't grow, as on a full disk, stays as it was."""
+        self.file("mapping.clio", "mapping 1; source { set part { no, slot; } } target { set category { kid, name; "
+                                  "key (kid); } } rule part(n, s) -> category(n, s);")
+        self.file("part.csv", "no,slot\n1,a\n")
+        self.printed("clio-load", *self.base.words)
+        rows = "".join(f"{one},{'a long name of the thing' * 2} {one}\n" for one in range(20000))
+        self.file("part.csv", "no,slot\n" + rows)
+        size = 3 * len(rows) // 2
+        run = subprocess.run([sys.executable, "-B", TOOLS / "clio-load", *self.base.words, "--delete"], cwd=self.folder,
+                             capture_output=True, check=False, text=True,
+                             preexec_fn=lambda: resource.setrlimit(resource.RLIMIT_FSIZE, (size, size)))
+        self.assertEqual((run.returncode, run.stdout), (2, ""), run.stderr)
+        self.assertIn("SQLite: ", run.stderr)
+        self.assertEqual(len(run.stderr.splitlines()), 1, run.stderr)
+        self.assertEqual(self.base.all("SELECT kid, name FROM {0}category"), [("1", "a")])
 
     def test_places(self) -> None:
         """What is no SQLite file is refused."""

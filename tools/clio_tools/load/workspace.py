@@ -7,6 +7,7 @@ from __future__ import annotations
 
 import contextlib
 import pathlib
+import signal
 import subprocess
 import sys
 import tempfile
@@ -118,5 +119,7 @@ class Workspace:
 
 def pass_on(said: bytes, status: int) -> NoReturn:
     """Ends as clio has ended."""
+    if status < 0:
+        raise Refused(f"clio was ended by {signal.Signals(-status).name}; nothing is changed")
     print(harmless(said.decode("utf-8", "replace")), end="", file=sys.stderr)
-    sys.exit(status if status > 0 else 2)
+    sys.exit(status)
