@@ -231,6 +231,18 @@ class Said(Trial):
         self.file("mapping.clio", "mapping 1;")
         self.refused("clio-why", "person", "zed", why="mapping.clio")
 
+    def test_drawing(self) -> None:
+        """Of the rules of a printed mapping the statements of the drawing are named."""
+        self.example("flights")
+        said = self.printed("clio-why", "leg", "F2")
+        self.assertIn("\nrule 1 is of drawing.clio: leg: a of each flight with the port by dep\n"
+                      "   line 8: rows leg from flight;\n   line 10: line port.city -> leg.a by dep;\n", said)
+        self.assertNotIn("rule 2", said)
+        said = self.printed("clio-why", "--not", "port", "ORY")
+        self.assertIn('\n  no row of flight has arr = "ORY", as port (code) asks for it, by rule 2', said)
+        self.assertIn("\n   line 11: line port.city -> leg.b by arr;\n", said)
+        self.assertNotIn("kept by", said)
+
     def test_bounds(self) -> None:
         """The first matches and rows, and how many more there are; all of them if asked for."""
         self.file("mapping.clio", "mapping 1; source { set a { x, y; } }"

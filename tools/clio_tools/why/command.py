@@ -17,6 +17,8 @@ row that a ref of it, or of a row to which it leads, or a rule, looks for and th
 has the text with other capitals or blanks), and the change of mapping.clio that would keep it. Such a change is tried
 before it is said.
 
+Of the rules of a mapping that clio-rules printed, it says which statements of the drawing led to them.
+
 All is read from what clio wrote: the rules, fold.csv, the tables in out, and the source files. If these aren't of one
 run, it says so. If out is missing, or has the rules of another mapping or the numbers of clio-ids, clio-why itself runs
 `clio exchange`, in a folder of its own.
@@ -33,7 +35,7 @@ EXIT STATUS
 0 if a row was found, 1 if there is none with this key, 2 for what it refuses.
 
 It is not proved; its tests look up each text of its reasons in the files, and compare the matches with another reading
-of the rules. For sources of 4,000,000 cells it takes some seconds, and 1 GB.
+of the rules. At 4,000,000 cells it takes some seconds, and up to 1 GB.
 """
 from __future__ import annotations
 
@@ -49,6 +51,7 @@ import sys
 import tempfile
 from collections.abc import Iterator
 
+from clio_tools.explain.drawn import with_drawing
 from clio_tools.explain.source import file_of
 from clio_tools.mapping.meaning import Unread, read_mapping
 from clio_tools.program import Refused, harmless, program, remark, run
@@ -127,7 +130,7 @@ def of_target(reasons: Reasons, given: argparse.Namespace) -> Iterator[Told]:
     for row in rows_of(exchange.out / f"{table.name}.csv", table, ways):
         reason = reasons.row(table.name, row.values, None if given.all else MOST_MATCHES)
         place = f", line {row.line} of out/{table.name}.csv" if exchange.folder == pathlib.Path() else ""
-        said = list(words.of_row(reason, table.name + place))
+        said = list(with_drawing(words.of_row(reason, table.name + place), "", exchange.content))
         yield as_json(reason) | {"numbers": numbers.known if numbers else {}}, said
 
 
@@ -140,7 +143,7 @@ def of_source(reasons: Reasons, given: argparse.Namespace) -> Iterator[Told]:
         found.update((fact.row, fact) for fact in reasons.source_rows(table.name, way))
     for fact in found.values():
         reason = reasons.source_fact(fact, None if given.all else MOST_MADE)
-        yield as_json(reason), list(words.of_source_row(reason))
+        yield as_json(reason), list(with_drawing(words.of_source_row(reason), "", reasons.exchange.content))
 
 
 def work(words: list[str]) -> None:

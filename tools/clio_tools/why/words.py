@@ -131,7 +131,7 @@ class Words:
             yield f"  {visible(miss.columns[0])} = {shown(miss.texts[0])} is not {miss.test}{of_part(miss.part)}"
         else:
             asked = ", ".join(f"{visible(column)} = {shown(text)}" for column, text in zip(miss.columns, miss.texts))
-            by = of_part(miss.part) or f" (rule {miss.rule})"
+            by = f", by rule {miss.rule}" * (miss.kind == "join") + of_part(miss.part)
             who = f"{visible(miss.from_set)} ({', '.join(map(visible, miss.from_columns))})" * bool(miss.from_columns)
             yield f"  no row of {visible(miss.set)} has {asked}{f', as {who} asks for it' * bool(who)}{by}"
         if miss.near:
