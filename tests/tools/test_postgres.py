@@ -63,6 +63,22 @@ class Sessions(unittest.TestCase):
         self.assertEqual(self.session.copy_rows_in("t", rows), len(rows))
         self.assertEqual(list(self.session.copied_rows("SELECT * FROM t ORDER BY a::int")), rows)
 
+    def test_little_is_held(self) -> None:
+        """What is copied in is sent before more is made: the server has all but a little when the last piece is made."""
+        pieces, size = 400, 1 << 16
+        self.session.run("CREATE UNIQUE INDEX ON t (b)")
+        other = Session(SERVERS[0].place[0])
+        self.addCleanup(other.close)
+        done: list[int] = []
+
+        def made() -> Iterator[bytes]:
+            for number in range(pieces):
+                yield "".join(f"{'x' * 40}\t{number}.{row}\n" for row in range(size // 50)).encode()
+            done.append(int(other.value("SELECT max(bytes_processed) FROM pg_stat_progress_copy") or 0))
+
+        self.session.copy_in("t", made(), "FORMAT text")
+        self.assertGreater(done[0], (pieces - 60) * size * 0.9)
+
     def test_several_statements(self) -> None:
         self.assertEqual(self.session.run("INSERT INTO t VALUES ('a'); INSERT INTO t VALUES ('b'), ('c')"), 2)
 

@@ -8,6 +8,7 @@ from __future__ import annotations
 
 import contextlib
 import re
+import select
 from collections.abc import Iterable, Iterator
 from typing import IO, TYPE_CHECKING, Any, NamedTuple, cast
 
@@ -234,6 +235,7 @@ class Session:
                 try:
                     for piece in pieces:
                         copy.write(piece)
+                        self._send()
                 except BaseException as error:
                     why = error
                     raise Unmade from None  # so that the server hears, and logs, no more than this name
@@ -243,6 +245,13 @@ class Session:
             with self._told():
                 raise why from None
         return cursor.rowcount
+
+    def _send(self) -> None:
+        """Waits until what was written is sent: libpq would hold all of it if the server is slower."""
+        link = self.connection.pgconn
+        while link.flush():
+            if select.select([link.socket], [link.socket], [])[0]:
+                link.consume_input()
 
     def copy_rows_in(self, target: str, rows: Iterable[Iterable[str | None]]) -> int:
         """Puts rows of texts, with None for NULL, into a table; answers their number."""
