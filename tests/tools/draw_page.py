@@ -8,6 +8,7 @@ import sys
 import unittest
 
 import chromium
+import draw_trial
 from trial import TOOLS
 
 
@@ -34,7 +35,8 @@ class Page(unittest.TestCase):
     def open(self, folder: pathlib.Path) -> None:
         """The page of a folder, after its first live run."""
         self.server = subprocess.Popen(  # pylint: disable=consider-using-with
-            [sys.executable, "-B", TOOLS / "clio-draw", folder], stdout=subprocess.PIPE, text=True)
+            [sys.executable, TOOLS / "clio-draw", folder], stdout=subprocess.PIPE, text=True,
+            env=draw_trial.ENVIRONMENT)
         self.addCleanup(self.leave)
         assert self.server.stdout is not None
         self.address = self.server.stdout.readline().strip()

@@ -27,6 +27,11 @@ def room() -> pathlib.Path:
     return made
 
 
+# Processes of clio-draw keep what Python makes of the modules for the next one, and not in the repository.
+ENVIRONMENT = {name: value for name, value in os.environ.items() if name != "PYTHONDONTWRITEBYTECODE"}
+ENVIRONMENT["PYTHONPYCACHEPREFIX"] = str(room())
+
+
 def copy_of(name: str) -> pathlib.Path:
     """A folder with an example's files."""
     folder = room() / name

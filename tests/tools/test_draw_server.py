@@ -225,7 +225,7 @@ class Folders(unittest.TestCase):
 class Command(Trial):
     def test_it_prints_an_address_and_ends(self) -> None:
         for name, status in (signal.SIGTERM, 143), (signal.SIGINT, 130):
-            with subprocess.Popen([sys.executable, "-B", TOOLS / "clio-draw", draw_trial.EXAMPLES / "teams"],
+            with subprocess.Popen([sys.executable, TOOLS / "clio-draw", draw_trial.EXAMPLES / "teams"],
                                   stdout=subprocess.PIPE, text=True) as process:
                 assert process.stdout is not None
                 self.assertRegex(process.stdout.readline(), r"\Ahttp://127\.0\.0\.1:[0-9]+/[\w-]{32}/\n\Z")
@@ -246,7 +246,7 @@ class Command(Trial):
         browser = self.file("browser", "#!/bin/sh\necho \"$@\" > \"$0.words\"\n")
         browser.chmod(0o755)
         environment = {**os.environ, "BROWSER": str(browser)}
-        with subprocess.Popen([sys.executable, "-B", TOOLS / "clio-draw", "--open", draw_trial.EXAMPLES / "teams"],
+        with subprocess.Popen([sys.executable, TOOLS / "clio-draw", "--open", draw_trial.EXAMPLES / "teams"],
                               stdout=subprocess.PIPE, text=True, env=environment) as process:
             assert process.stdout is not None
             address = process.stdout.readline().strip()

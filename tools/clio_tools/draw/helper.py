@@ -31,7 +31,7 @@ class Helper:
         self.doing = ""
         self.room = tempfile.mkdtemp(prefix="clio-draw-")
         clio = program()
-        self.environment = {**os.environ, "PYTHONDONTWRITEBYTECODE": "1", "PYTHONPATH": str(PACKAGE),
+        self.environment = {**os.environ, "PYTHONPATH": str(PACKAGE),
                             "PATH": os.path.dirname(clio) + os.pathsep + os.environ.get("PATH", "")}
 
     def start(self) -> subprocess.Popen[bytes]:
