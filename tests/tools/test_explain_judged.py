@@ -248,6 +248,20 @@ class Compared(Folder):
         turned = [re.sub("mapping.clio|other.clio", lambda name: names[name[0]], line) for line in wanted]
         self.assertEqual(self.compared(less, text), turned)
 
+    def test_compare_bounds(self) -> None:
+        """Of each side twelve rows, and how many more there are; or all."""
+        sides = "mapping 1; source { set a { x, y; } } target { set b { u, v; } }\n"
+        left = ", ".join(f"a(x{number}, x{number + 1})" for number in range(20))
+        self.file("mapping.clio", f"{sides}rule {left} -> b(x0, x20);")
+        self.file("other.clio", sides)
+        self.assertEqual(self.clio("compare")[0], 0)
+        said = self.tool("clio-explain", "compare")[2]
+        self.assertEqual(said.count("       a: x = "), 12)
+        self.assertIn("\nclio-explain:       and 8 more; clio-explain compare --all lists all\n", said)
+        status, printed, said = self.tool("clio-explain", "compare", "--all")
+        self.assertEqual((status, printed), self.clio("compare"))
+        self.assertEqual(said.count("       a: x = "), 20)
+
     def test_compare_joins(self) -> None:
         """Rows that are there, and not joined as a rule asks; a mapping that makes nothing; texts that begin with v."""
         sides = "mapping 1; source { set a { x, y; } } target { set b { u, v; } set c { v, w; } }\n"

@@ -26,7 +26,8 @@ more on standard error, each text in quotes, cut if it is long, and without cont
                          missing, cells that differ, rows that nothing asks for, texts that nobody gave, values that
                          nothing makes one; the first five of each kind, or all after `clio-explain judge --all`
     verdict solution     which rows say more than they may, in the same way
-    forward .., backward ..  the rule that says more, the rows that show it, and what is not there
+    forward .., backward ..  the rule that says more, the rows that show it (twelve, or all after `clio-explain compare
+                         --all`), and what is not there
 
 If nothing was refused it warns of what the manual calls traps: a rule of lines that has a set twice, a ref of the
 source that drops rows, with their number, and whether a line uses it; columns of the source that go nowhere, and
@@ -84,7 +85,7 @@ def work(words: list[str]) -> None:
         return
     try:
         clio = program()
-        own = ["judge"] if words == ["judge", "--all"] else words
+        own = words[:1] if words in (["judge", "--all"], ["compare", "--all"]) else words
         ended = subprocess.run([clio, *own], stderr=subprocess.PIPE, check=False)
     except Refused as why:
         sys.exit(f"clio-explain: {why}")

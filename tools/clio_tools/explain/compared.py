@@ -34,8 +34,9 @@ class Direction(NamedTuple):
     rule: int
 
 
-def explain() -> Iterator[str]:
-    """The lines on the comparison in this folder; it is made once more in a folder of its own."""
+def explain(is_all: bool = False) -> Iterator[str]:
+    """The lines on the comparison in this folder, with the first rows of each side or all; it is made once more in a
+    folder of its own."""
     with tempfile.TemporaryDirectory(prefix="clio-explain-") as name:
         folder = pathlib.Path(name)
         for file in NAMES:
@@ -49,7 +50,7 @@ def explain() -> Iterator[str]:
         for direction, rule in found.items():
             if rule:
                 names = NAMES[::-1] if direction == "forward" else NAMES
-                yield from Difference(folder, Direction(direction, *names, int(rule))).words()
+                yield from Difference(folder, Direction(direction, *names, int(rule)), is_all).words()
 
 
 def verdict(found: dict[str, str]) -> Iterator[str]:
@@ -67,8 +68,8 @@ def verdict(found: dict[str, str]) -> Iterator[str]:
 class Difference:
     """A rule that one mapping has, and that doesn't follow from the other, with the rows that show it."""
 
-    def __init__(self, folder: pathlib.Path, direction: Direction) -> None:
-        self.folder, self.direction = folder, direction
+    def __init__(self, folder: pathlib.Path, direction: Direction, is_all: bool) -> None:
+        self.folder, self.direction, self.most = folder, direction, None if is_all else MOST
 
     def words(self) -> Iterator[str]:
         """The rule, the source rows, what is made of them, and what is not."""
@@ -99,9 +100,9 @@ class Difference:
         """Rows by their tables."""
         told = [f"      {visible(table.name)}: {cells(table, dict(enumerate(row)))}"
                 for table, some in zip(tables, rows) for row in some]
-        yield from told[:MOST]
-        if len(told) > MOST:
-            yield f"      and {len(told) - MOST} more"
+        yield from told[:self.most]
+        if self.most is not None and len(told) > self.most:
+            yield f"      and {len(told) - self.most} more; clio-explain compare --all lists all"
 
     def lacking(self, rule: Rule, mapping: Mapping, source: list[list[Row]], target: list[list[Row]]) -> Iterator[str]:
         """The rows that the rule asks for and that aren't there."""

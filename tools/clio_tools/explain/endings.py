@@ -85,8 +85,8 @@ def ending(status: int, message: str, words: list[str], content: bytes | None) -
         yield from drawing_notes.after_warnings(traps.explain(words, content), content)
     elif status == 0 and words[:1] == ["judge"] and content is not None:
         yield from verdicts.explain(content, "--all" in words)
-    elif status == 0 and words == ["compare"]:
-        yield from compared.explain()
+    elif status == 0 and words[:1] == ["compare"]:
+        yield from compared.explain("--all" in words)
     elif status == 2:
         yield from usage(words, message)
     elif status == 3 and content is not None:
