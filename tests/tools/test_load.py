@@ -230,6 +230,17 @@ class Common(Loads):
         self.load("--adopt")
         self.assertIn(("cyd@x", "?"), {row[:2] for row in self.base.state()["customer"]})
 
+    def test_adopt(self) -> None:
+        """Rows that something else has loaded are taken as written by loads, if that is said."""
+        self.base.run("INSERT INTO country VALUES ('DE'), ('XX'), ('YY')")
+        self.file("mapping.clio", "mapping 1; source { set s { a; } } target { set country { iso; key (iso); } } "
+                                  "rule s(x) -> country(x);")
+        self.file("s.csv", "a\nDE\nXX\n")
+        self.printed("clio-load", *self.base.words, "--adopt")
+        self.file("s.csv", "a\nDE\n")
+        self.printed("clio-load", *self.base.words, "--delete")
+        self.assertEqual(self.base.all("SELECT iso FROM {0}country"), [("DE",), ("YY",)])
+
     def test_referred(self) -> None:
         """A row to which another table still refers is told, and kept if that is asked for; nothing is cascaded."""
         self.first()
@@ -378,10 +389,14 @@ class Common(Loads):
         """With --identity a town that is there keeps its number, new ones get the next, and the crosswalk keeps all."""
         self.base.run("INSERT INTO country VALUES ('AT'), ('DE'); INSERT INTO town (name, iso) VALUES ('Graz', 'AT'), "
                       "('Ulm', 'DE')")
+        self.base.run("INSERT INTO customer (cid, mail) VALUES (50, 'ann@x')")
         self.source(FIRST)
-        status, printed = self.dry("--identity", "--others")
+        _, printed = self.dry("--identity", "--others")
         self.assertIn("town: 2 to insert, 0 to change, 0 to delete, 1 equal, 1 of others", printed)
         self.load("--identity")
+        orders = self.base.all("SELECT o.number, c.cid, c.name FROM {0}orders o JOIN {0}customer c ON c.cid = o.cid")
+        self.assertEqual(orders, [("1", "50", "Ann"), ("2", self.base.numbers()["customer"]["bob@x"], "Bob"),
+                                  ("3", "50", "Ann")])
         towns = {"Graz AT": "1", "Ulm DE": "2", "Bonn DE": "3", "Paris FR": "4"}
         numbers = self.base.numbers()["town"]
         self.assertEqual({key: numbers[key] for key in ("Graz AT", "Ulm DE")}, {"Graz AT": "1", "Ulm DE": "2"})

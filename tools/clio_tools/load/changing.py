@@ -1,9 +1,8 @@
 """What a load changes, by SQL over whole tables.
 
 Tables come in the order of their foreign keys: in each first the changed rows, then the new ones; at the end, in the
-other order, the rows that go. A row that has a value of a unique key which another row is to get lets go of it first:
-it
-gets a value that no row has.
+other order, the rows that go. A row that has a value of a unique key which another row is to get lets go of it first,
+and gets one that no row has.
 """
 from __future__ import annotations
 
@@ -21,9 +20,10 @@ Tell = Callable[[str], None]
 class Change:
     """Writes what a comparison found."""
 
-    def __init__(self, comparison: Comparison, tell: Tell, direct: Callable[[TablePlan], int]) -> None:
+    def __init__(self, comparison: Comparison, tell: Tell, direct: Callable[[TablePlan], int],
+                 adopts: bool) -> None:
         self.comparison, self.database, self.record = comparison, comparison.database, comparison.record
-        self.plan, self.tell, self.direct = comparison.plan, tell, direct
+        self.plan, self.tell, self.direct, self.adopts = comparison.plan, tell, direct, adopts
 
     def write(self) -> None:
         """Writes all changes, and records whose rows they are."""
@@ -145,5 +145,7 @@ class Change:
                                              f"FROM {extra} AS e"
                                              f" WHERE e.is_own = 1 AND (e.is_gone = 0 OR "
                                              f"{int(comparison.gone == MARK)} = 1)")
-        if counts.inserted or counts.changed:
+        if self.adopts:
+            self.record.add(plan, f"SELECT {key} AS m FROM {comparison.new(plan)} AS n")
+        elif counts.inserted or counts.changed:
             self.record.add(plan, f"SELECT {key} AS m FROM {plan.work('diff')} AS n")

@@ -6,14 +6,13 @@
 Run it in the folder of mapping.clio. It runs `clio exchange` in a temporary folder, compares the target with the tables
 of the database, and writes what differs, in one transaction: rows that are missing are inserted, those with other
 values changed; what is equal is not written. A table is that of a set's name, a column likewise; names that are no
-words are taken as clio-draft notes them. Columns that the mapping doesn't know keep their values, or get their
-defaults.
-If a text can't become a value of its column's type, or would be altered there, as by rounding, if a column must have a
-value and gets none, or is missing, all such cells are listed, and nothing is changed.
+words are taken as clio-draft notes them. Columns that the mapping doesn't know, or that no rule fills, keep their
+values, or get their defaults. If a text can't become a value of its column's type, or would be altered there, as by
+rounding, if a column must have a value and gets none, or is missing, all such cells are listed, and nothing is changed.
 
 Rows are matched by a key that has a value in each row of the target: the table's primary key if the mapping fills it,
 else a key of the mapping, else another unique key. A table without one is matched by whole rows, and equal ones are
-counted. Tables are written in the order of their foreign keys.
+counted. Tables are written in the order of their foreign keys; those in a circle have to be deferrable in PostgreSQL.
 
 A null is NULL; with `--ids` a surrogate key is its number in the crosswalk of clio-ids (man clio-ids), which is changed
 with the database. New numbers are none that a row in the database has. In columns that are no texts the empty text is
@@ -22,20 +21,19 @@ NULL too.
 OPTIONS
 `--ids CROSSWALK` gives surrogate keys their numbers.
 
-`--identity` has columns that the database numbers by itself keep to that: a new thing gets the number of the row to
-which
-another key of its own leads, or else the next one, and the crosswalk keeps it.
+`--identity` has surrogate keys be the tables' own numbers: a new thing gets that of the row to which another key of its
+own leads, or else the next one, as an identity column has it, and the crosswalk keeps it.
 
 `--delete`, `--mark COLUMN` or `--keep` says what becomes of rows that a former load wrote and the target no longer has:
 they are deleted, or COLUMN is set (to true, 1 or the time), or they are kept, which is the default. Rows that no load
 has written are never touched if the target doesn't have them.
 
 `--keep-referred` keeps rows that are to be deleted and to which rows refer that stay; without it such rows are listed,
-and
-nothing is changed. Nothing is deleted by a cascade.
+and nothing is changed. Nothing is deleted by a cascade.
 
-`--adopt` changes rows that no load wrote, and that have the number of a thing in the crosswalk; without it they are
-listed, and nothing is changed, as the number may be another thing's.
+`--adopt` takes the rows that the target has as written by a load, whoever wrote them. Without it rows that no load
+wrote, and that have the number of a thing in the crosswalk, are listed if they would be changed, and nothing is
+changed, as the number may be another thing's.
 
 `--key TABLE=COLUMN,..` is the key by which the rows of a table are matched; it may be repeated.
 
@@ -45,14 +43,12 @@ listed, and nothing is changed, as the number may be another thing's.
 older than the sources, were cut, or are of other rules are refused.
 
 `--dry-run` changes nothing, and prints what a load would do: for each table how many rows, in which columns, and five
-of
-each. The status is 1 if the database differs from the target, and else 0. Rows that the target doesn't have are a
+of each. The status is 1 if the database differs from the target, and else 0. Rows that the target doesn't have are a
 difference too, unless `--others` says that rows which no load wrote are right. `--diff FILE` writes all differences as
 CSV, with or without `--dry-run`: NULL is ? there, and a text that begins with ? has one more.
 
 `--log TABLE` adds a row to a table, which is made if it isn't there: when, which mapping and sources (SHA-256),
-options,
-and how many rows of each table.
+options, and how many rows of each table.
 
 `--name NAME` tells the loads of several mappings into the same tables apart: the rows that a load of another name wrote
 are not its own. The name is clio if it is left out.
@@ -60,14 +56,12 @@ are not its own. The name is clio if it is left out.
 PLACES
 The record of the rows that loads have written is the table clio_load.written in PostgreSQL, clio_load_written in an
 SQLite file. Sequences are set behind the greatest number; nothing else of the schema is changed. A lock of somebody
-else
-is waited for ten seconds. In PostgreSQL, timestamps without a zone are of UTC in columns that have one. CONNECTION is
-what `psql -d` takes; SCHEMA is public if it is left out.
+else is waited for ten seconds. In PostgreSQL, timestamps without a zone are of UTC in columns that have one. CONNECTION
+is what `psql -d` takes; SCHEMA is public if it is left out.
 
 EXIT STATUS
 0 if all was done, or a dry run found no difference; 1 if it found one; 2 if something was refused. What clio refuses
-ends
-with clio's own status.
+ends with clio's own status.
 """
 from __future__ import annotations
 

@@ -5,8 +5,7 @@ Of a staged table `new` come
 
     diff    its rows that the database lacks (is_new), or has with other values
     extra   the rows of the database that it lacks: all their columns, their key as a text m, whether a former load
-    wrote
-            them (is_own), and whether they go (is_gone)
+            wrote them (is_own), and whether they go (is_gone)
 
 Rows are matched by a key that has a value in each row of `new`; without one by all columns and, as rows may be equal
 then, by their number among equal ones.

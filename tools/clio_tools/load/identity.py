@@ -1,8 +1,7 @@
-"""The numbers that a database gives by itself: with `--identity` they stand in place of the crosswalk's, which keeps
-them.
+"""The tables' own numbers: with `--identity` surrogate keys have these in place of the crosswalk's, which keeps them.
 
-A domain is a column that the database numbers, with the columns that refs of the mapping link to it. A thing without a
-value yet gets that of the row which another key of its own leads to, or else the next one.
+A domain is a column of surrogate keys, with the columns that refs of the mapping link to it. A thing without a value
+yet gets that of the row which another key of its own leads to, or else the next one.
 """
 from __future__ import annotations
 
@@ -11,13 +10,14 @@ from typing import NamedTuple
 from clio_tools.ids.crosswalk import Crosswalk
 from clio_tools.ids.given import given_values, keep_values
 from clio_tools.ids.keys import home_columns
+from clio_tools.load.catalog import INTEGER, NUMBER
 from clio_tools.load.database import Database, identifier
 from clio_tools.load.plan import Plan, TablePlan
 from clio_tools.mapping.text import Set
 
 
 class Domain(NamedTuple):
-    """A column that the database numbers, by its place among the loaded ones, and all columns with its values."""
+    """A column of surrogate keys, by its place among the loaded ones, and all columns with its values."""
 
     number: int
     home: TablePlan
@@ -44,7 +44,8 @@ class Identity:
         for home in plan.tables:
             homes = home_columns(home.set, sets)
             for place, (column_place, column) in enumerate(home.columns):
-                if column.is_identity and place in home.numbered and home.set.columns[column_place] in homes:
+                if (column.kind in (INTEGER, NUMBER) and place in home.numbered
+                        and home.set.columns[column_place] in homes):
                     members = linked(plan, sets, (home.set.name, home.set.columns[column_place]))
                     self.domains.append(Domain(len(self.domains), home, place, members))
         for domain in self.domains:

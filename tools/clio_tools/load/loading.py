@@ -141,7 +141,7 @@ class Load:
         self.check_referred(comparison)
         self.check_numbers(comparison)
         comparison.record.make()
-        Change(comparison, self.tell, self.fill_directly).write()
+        Change(comparison, self.tell, self.fill_directly, self.given.adopt).write()
         if self.given.log:
             self.log(comparison)
         if self.crosswalk is not None:
