@@ -3,7 +3,7 @@ import {byId, h} from "./dom.js";
 
 const TABS = [
   ["rows", "Target rows"], ["sources", "Source rows"], ["examples", "Examples"], ["rules", "Rules"],
-  ["warnings", "Warnings"], ["lines", "Lines"], ["proposals", "Proposals"], ["hand", "Rules by hand"]
+  ["warnings", "Warnings"], ["lines", "Lines"], ["proposals", "Proposals"], ["hand", "By hand"]
 ];
 export const panels = {}, buttons = {};
 const openers = {};

@@ -81,6 +81,11 @@ function tableOf(name, table, isLazy) {
   return section;
 }
 
+function rulesIn(rules) {
+  if (rules.length === 1) return `rule ${rules[0]}`;
+  return `rules ${rules.slice(0, -1).join(", ")} and ${rules.at(-1)}`;
+}
+
 // The rows of a table that are there for one reason, with how many they are.
 async function group(name, box) {
   if (box.childElementCount) {
@@ -97,9 +102,7 @@ async function group(name, box) {
       groups.map(
           (one) =>
               h("details", {},
-                h("summary", {},
-                  `${counted(one.count, "row is", "rows are")} there by ${
-                      one.rules.length === 1 ? `rule ${one.rules[0]}` : `rules ${one.rules.join(" and ")}`}`),
+                h("summary", {}, `${counted(one.count, "row is", "rows are")} there by ${rulesIn(one.rules)}`),
                 one.rows.map((row) => h("p", {class: "made-row"}, name, "(", cells(row), ")")),
                 one.count > one.rows.length && h("p", {class: "empty"}, `and ${one.count - one.rows.length} more`))),
       cut && h("p", {class: "empty"}, "of the first 5,000 rows"));
