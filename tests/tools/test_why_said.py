@@ -148,6 +148,30 @@ class Said(Trial):
         self.assertEqual([(one.kind, one.failing.texts[0] if one.failing else "") for one in item.misses],
                          [("ref", "103")])
 
+    def test_equal_columns(self) -> None:
+        """Rules written by hand that take only rows in which columns are equal."""
+        self.file("mapping.clio", "mapping 2; source { set a { x, y; } set b { u, v, w; } } target { set c { z; } }"
+                  " rule a(x, x) -> c(x); rule b(u, v, w), a(u, v) -> c(w); only a.y filled;")
+        self.file("a.csv", "x,y\n1,2\n3,\n")
+        self.file("b.csv", "u,v,w\n3,,7\n1,2,8\n5,6,9\n")
+        self.exchanged()
+        self.assertIn("8", (self.folder / "out" / "c.csv").read_text())
+        self.assertEqual(self.printed("clio-why", "--not", "b", "3").splitlines(), [
+            'b.csv, line 2 (record 1): u = "3", v = "", w = "7"', "no rule uses it:",
+            '  no row of a has x = "3", y = "", as b (u, v) asks for it, by rule 1 (mapping.clio, line 1)',
+            '    one that has it fails a condition: a.csv, line 3 (record 2): x = "3", y = ""',
+            "kept by this change of mapping.clio:", "  line 1: without only a.y filled;",
+            "rule 1: b(x0, x1, x2), a(x0, x1) -> c(x2);"])
+        self.file("a.csv", "x,y\n1,2\n4,4\n")
+        self.file("mapping.clio", "mapping 1; source { set a { x, y; } set b { u; } } target { set c { z; } set d { z; } }"
+                  " rule a(x, x) -> c(x); rule b(u), a(u, u) -> d(u);")
+        self.file("b.csv", "u\n1\n4\n")
+        self.exchanged()
+        self.assertIn('\n  rule 0 takes rows in which x and y are equal: x = "1" and y = "2"\n',
+                      self.printed("clio-why", "--not", "a", "1", "2"))
+        self.assertIn('\n  no row of a with x = y has x = "1", as b (u) asks for it, by rule 1',
+                      self.printed("clio-why", "--not", "b", "1"))
+
     def test_documents(self) -> None:
         """Inner sets: rows by their place in the document; a row that fails a condition; an inner row of an outer one
         that misses its town."""

@@ -139,8 +139,9 @@ class Miss:
     `unread`: no rule reads the set. `condition`: the text in a column fails a test. `ref`: no row that counts has the
     texts to which a ref leads, from columns of its set or of a set on the way; `join`: the same of what a rule joins.
     `set` with `columns` is where `texts` were looked for; `failing` is a row there that has them and fails a condition,
-    `near` a text there that differs by case or by signs that aren't seen; `part` is the condition, the ref or the
-    rule."""
+    `near` a text there that differs by case or by signs that aren't seen; `test` is the condition's, or which columns
+    have to be equal there; `part` is the condition, the ref or the rule. If a rule takes only rows of the set itself in
+    which some columns are equal, these are the columns on both sides."""
 
     kind: Literal["unread", "condition", "ref", "join"]
     rule: int | None

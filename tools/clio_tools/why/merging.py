@@ -74,7 +74,8 @@ class Around:
 
 def companions(exchange: Exchange, origin: Origin, columns: list[int], most: int) -> Iterator[Origin | None]:
     """What asks for the same row as an origin at the end, or for one that agrees with it on the left of a dependency
-    which decides one of these columns; of each atom the first few, and None if there are more. """
+    which decides one of these columns; of each atom the first few, and None if there are more.
+    """
     number = exchange.mapping.rules[origin.rule].conclusion[origin.atom].table
     table = exchange.mapping.target[number]
     last = exchange.last_row(exchange.raw(origin))

@@ -28,6 +28,7 @@ class Found(NamedTuple):
     table: int
     columns: Columns
     texts: Row
+    equal: tuple[tuple[int, int], ...]  # columns there that have to be equal
 
 
 class Missing:
@@ -90,10 +91,13 @@ class Missing:
         """The same of one rule, the row being that of one atom."""
         rule, found = self.mapping.rules[number], []
         left = {at: atom for at, atom in enumerate(rule.premise) if at != place}
-        texts = self.source.rows(rule.premise[place].table).rows[row]
-        values = dict(zip(rule.premise[place].cells, texts))
-        if any(values[variable] != text for variable, text in zip(rule.premise[place].cells, texts)):
-            return [Found(number, place, (), rule.premise[place].table, (), ())]
+        atom = rule.premise[place]
+        texts = self.source.rows(atom.table).rows[row]
+        values = dict(zip(atom.cells, texts))
+        apart = [column for column, variable in enumerate(atom.cells) if values[variable] != texts[column]]
+        if apart:
+            same = (apart[0], max(column for column, one in enumerate(atom.cells) if one == atom.cells[apart[0]]))
+            return [Found(number, place, same, atom.table, same, (texts[same[0]], texts[same[1]]), ())]
         ways = [values]
         met = {place}
         while left:
@@ -131,7 +135,7 @@ class Missing:
         cells = premise[start].cells
         own = tuple(cells.index(variable) for variable in step.variables if variable in cells)
         texts = tuple(values[variable] for variable in step.variables)
-        return Found(number, start, own, premise[at].table, step.bound, texts)
+        return Found(number, start, own, premise[at].table, step.bound, texts, step.equal)
 
     def miss(self, found: Found) -> Miss:
         """What wasn't found, as data."""
@@ -139,8 +143,9 @@ class Missing:
         start, table = self.mapping.source[self.start(found)], self.mapping.source[found.table]
         part = self.parts.part(ref) if ref else self.parts.rule(found.rule)
         shown = self.source.told(failing.table, failing.row, failing.place) if failing else None
+        equal = " and ".join(" = ".join(named(table, pair)) for pair in found.equal)
         return Miss("ref" if ref else "join", found.rule, start.name, named(start, found.own), table.name,
-                    named(table, found.columns), found.texts, "", part, self.near(found), shown)
+                    named(table, found.columns), found.texts, equal, part, self.near(found), shown)
 
     def start(self, found: Found) -> int:
         """The table that asks for what wasn't found."""
@@ -173,9 +178,11 @@ class Missing:
 
     def failing(self, found: Found) -> Fact | None:
         """A row that has the texts and fails a condition."""
-        if not self.source.has_conditions(found.table):
+        is_own = self.start(found) == found.table and found.own == found.columns
+        if is_own or not self.source.has_conditions(found.table):
             return None
-        return next(self.source.having(found.table, list(zip(found.columns, found.texts))), None)
+        facts = self.source.having(found.table, list(zip(found.columns, found.texts)))
+        return next((fact for fact in facts if not self.source.passes(fact.table, fact.row)), None)
 
     def all_misses(self, fact: Fact) -> tuple[tuple[Miss, ...], tuple[Edit, ...]]:
         """What a row missed, and missed besides if it is kept from that; with all changes that keep it."""

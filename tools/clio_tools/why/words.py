@@ -122,6 +122,7 @@ class Words:
         for miss in reason.misses:
             yield from self.of_miss(miss)
         yield from self.of_edits(reason)
+        yield from self.of_rules({miss.rule for miss in reason.misses if miss.kind == "join" and miss.rule is not None})
 
     def of_miss(self, miss: Miss) -> Iterator[str]:
         """What a row missed."""
@@ -129,11 +130,15 @@ class Words:
             yield f"  no rule reads {visible(miss.set)}"
         elif miss.kind == "condition":
             yield f"  {visible(miss.columns[0])} = {shown(miss.texts[0])} is not {miss.test}{of_part(miss.part)}"
+        elif miss.from_set == miss.set and miss.from_columns == miss.columns and not miss.test:
+            told = " and ".join(f"{visible(one)} = {shown(text)}" for one, text in zip(miss.columns, miss.texts))
+            yield f"  rule {miss.rule} takes rows in which {' and '.join(map(visible, miss.columns))} are equal: {told}"
         else:
             asked = ", ".join(f"{visible(column)} = {shown(text)}" for column, text in zip(miss.columns, miss.texts))
             by = f", by rule {miss.rule}" * (miss.kind == "join") + of_part(miss.part)
             who = f"{visible(miss.from_set)} ({', '.join(map(visible, miss.from_columns))})" * bool(miss.from_columns)
-            yield f"  no row of {visible(miss.set)} has {asked}{f', as {who} asks for it' * bool(who)}{by}"
+            equal = f" with {visible(miss.test)}" * bool(miss.test)
+            yield f"  no row of {visible(miss.set)}{equal} has {asked}{f', as {who} asks for it' * bool(who)}{by}"
         if miss.near:
             yield f"    {shown(miss.near)} is there, which differs by case or by signs that aren't seen: mend the file"
         if miss.failing:
