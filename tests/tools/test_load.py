@@ -391,6 +391,8 @@ class Common(Loads):
                       "('Ulm', 'DE')")
         self.base.run("INSERT INTO customer (cid, mail) VALUES (50, 'ann@x')")
         self.source(FIRST)
+        self.refused("clio-load", *self.base.words, "--ids", "ids.db", why="nothing is changed; if a row that has this is "
+                     "the same thing with another number, take --identity")
         _, printed = self.dry("--identity", "--others")
         self.assertIn("town: 2 to insert, 0 to change, 0 to delete, 1 equal, 1 of others", printed)
         self.load("--identity")

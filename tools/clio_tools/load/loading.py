@@ -70,7 +70,9 @@ class Load:
             for plan in self.plan.tables:
                 self.fill(plan)
             self.refuse_misfits(list(self.misfits()))
-        return Refused(f"{cause}; nothing is changed")
+        is_taken = "unique" in cause.lower() and self.crosswalk is not None and self.identity is None
+        hint = "; if a row that has this is the same thing with another number, take --identity" if is_taken else ""
+        return Refused(f"{cause}; nothing is changed{hint}")
 
     def fill(self, plan: TablePlan) -> int:
         """Reads a file into a work table; answers how many rows it has."""
