@@ -268,6 +268,30 @@ class Examples(unittest.TestCase):
                 self.assertIn(row["cells"], made["tables"][row["table"]]["rows"])
 
 
+class Drafts(unittest.TestCase):
+    def setUp(self) -> None:
+        self.addCleanup(os.chdir, os.getcwd())
+
+    def draft(self, kind: str, place: str, side: str = "source") -> Any:
+        """A draft of what is in the examples."""
+        return Asked(draw_trial.EXAMPLES)("draft", kind=kind, place=place, schema="", side=side, drawing=False,
+                                          data=side == "source")
+
+    def test_files_and_documents(self) -> None:
+        made = self.draft("csv", "teams")
+        self.assertIn("set emp {", made["text"])
+        self.assertEqual(pathlib.Path("drafted", "emp.csv").read_text(), "name,dept\nann,toys\nbob,toys\n")
+        self.assertIn("set shop {", self.draft("json", "warehouse/shop.json")["text"])
+        self.assertTrue(self.draft("csv", "teams", "target")["text"].startswith("target {"))
+        self.assertFalse(pathlib.Path("drafted").exists())
+
+    def test_what_is_refused(self) -> None:
+        for kind, place, why in (("sqlite", "nowhere.db", "is no file"), ("sqlite", "teams/emp.csv", "emp.csv"),
+                                 ("csv", "nowhere", "nowhere"), ("json", "teams/emp.csv", "emp.csv"),
+                                 ("sqlite", "", "name what is to be read"), ("text", "teams", "drafted from sqlite")):
+            self.assertIn(why, self.draft(kind, place)["error"], (kind, place))
+
+
 class Choices(unittest.TestCase):
     def setUp(self) -> None:
         self.addCleanup(os.chdir, os.getcwd())
