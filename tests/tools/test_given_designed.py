@@ -27,8 +27,9 @@ ROWS = """INSERT INTO party (name, manager_id, pay, active, born, seen, note) VA
  ('cyd', 1, 0.5, {t}, NULL, '2026-03-03 00:00:00{z}', '?');
 CREATE VIEW client AS SELECT party_id AS cid, name AS who FROM party;
 """
-SQLITE = """CREATE TABLE party (party_id INTEGER PRIMARY KEY, name TEXT NOT NULL UNIQUE, manager_id INTEGER REFERENCES party,
- pay NUMERIC NOT NULL, active BOOLEAN NOT NULL, born DATE, seen TIMESTAMP, note TEXT, city TEXT);
+SQLITE = """CREATE TABLE party (party_id INTEGER PRIMARY KEY, name TEXT NOT NULL UNIQUE,
+ manager_id INTEGER REFERENCES party, pay NUMERIC NOT NULL, active BOOLEAN NOT NULL, born DATE, seen TIMESTAMP,
+ note TEXT, city TEXT);
 """ + ROWS.format(t=1, f=0, z="")
 POSTGRES = """CREATE TABLE party (party_id integer GENERATED ALWAYS AS IDENTITY PRIMARY KEY, name text NOT NULL UNIQUE,
  manager_id integer REFERENCES party, pay numeric(10,2) NOT NULL, active boolean NOT NULL, born date, seen timestamptz,
@@ -71,7 +72,8 @@ class Designed(Trial):
             self.assertNotEqual(self.clio("judge"), (0, "verdict core\n"), WORDS[less:less + 2])
         self.printed("clio-given", *place, *WORDS[:3], "--null-is", "empty", "--types", "catalog")
         self.assertEqual(self.clio("judge"), (0, "verdict core\n"))
-        self.printed("clio-given", *place, *WORDS[:3], "--null-is", "empty", "--null-is", "party.note=null", *WORDS[-2:])
+        empty = ["--null-is", "empty", "--null-is", "party.note=null"]
+        self.printed("clio-given", *place, *WORDS[:3], *empty, *WORDS[-2:])
         self.assertNotEqual(self.clio("judge"), (0, "verdict core\n"))
 
     def try_types(self, *place: str) -> None:
@@ -92,7 +94,7 @@ class Designed(Trial):
         (self.folder / "out" / "party.csv").unlink()
         self.refused("clio-given", *place, "--types", "types.txt", why="out/party.csv is missing, which has the texts")
         self.refused("clio-given", *place, "--null-is", "party.note=never", why="party.note=never: it is null or empty")
-        self.refused("clio-given", *place, "--null-is", "party.x=empty", why="--null-is party.x: the target has no such")
+        self.refused("clio-given", *place, "--null-is", "party.x=empty", why="--null-is party.x: the target has no")
         self.refused("clio-given", *place, "--surrogate", "client.cid=party.x",
                      why="--surrogate party.x: the target has no such column")
         self.printed("clio-given", *place, "--null", "n/a")

@@ -163,14 +163,17 @@ class Said(Trial):
             "kept by this change of mapping.clio:", "  line 1: without only a.y filled;",
             "rule 1: b(x0, x1, x2), a(x0, x1) -> c(x2);"])
         self.file("a.csv", "x,y\n1,2\n4,4\n")
-        self.file("mapping.clio", "mapping 1; source { set a { x, y; } set b { u; } } target { set c { z; } set d { z; } }"
-                  " rule a(x, x) -> c(x); rule b(u), a(u, u) -> d(u);")
+        self.file("mapping.clio", "mapping 1; source { set a { x, y; } set b { u; } set e { k, p, q; } }"
+                  " target { set c { z; } set d { z; } } rule a(x, x) -> c(x); rule b(u), a(u, u) -> d(u);"
+                  " rule b(u), e(u, w, w) -> d(w);")
         self.file("b.csv", "u\n1\n4\n")
+        self.file("e.csv", "k,p,q\n1,2,3\n")
         self.exchanged()
         self.assertIn('\n  rule 0 takes rows in which x and y are equal: x = "1" and y = "2"\n',
                       self.printed("clio-why", "--not", "a", "1", "2"))
-        self.assertIn('\n  no row of a with x = y has x = "1", as b (u) asks for it, by rule 1',
-                      self.printed("clio-why", "--not", "b", "1"))
+        said = self.printed("clio-why", "--not", "b", "1")
+        self.assertIn('\n  no row of a has x = "1", y = "1", as b (u, u) asks for it, by rule 1', said)
+        self.assertIn('\n  no row of e with p = q has k = "1", as b (u) asks for it, by rule 2', said)
 
     def test_documents(self) -> None:
         """Inner sets: rows by their place in the document; a row that fails a condition; an inner row of an outer one

@@ -84,8 +84,10 @@ class Missing:
         by_rule = [found for number, rule in enumerate(self.mapping.rules) for place, atom in enumerate(rule.premise)
                    if atom.table == fact.table and (found := self.unfound_by(number, place, row))]
         least = min(map(len, by_rule), default=0)
-        return list({one[2:] + (self.mapping.rules[one.rule].premise[one.start].table,): one
-                     for found in by_rule if len(found) == least for one in found}.values())
+        first: dict[tuple[object, ...], Found] = {}
+        for one in (one for found in by_rule if len(found) == least for one in found):
+            first.setdefault((self.start(one), *one[2:]), one)
+        return list(first.values())
 
     def unfound_by(self, number: int, place: int, row: int) -> list[Found]:
         """The same of one rule, the row being that of one atom."""
