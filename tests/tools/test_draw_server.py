@@ -11,6 +11,7 @@ import sys
 import threading
 import time
 import unittest
+import urllib.parse
 from typing import Any
 
 import draw_trial
@@ -199,6 +200,16 @@ class Folders(unittest.TestCase):
             folder.save("x", MAPPING, folder.read().digest, "\n")
         self.assertTrue((path / "mapping.clio").is_symlink())
 
+    def test_what_is_no_file_is_not_read(self) -> None:
+        path = draw_trial.copy_of("teams")
+        (path / "mapping.clio").unlink()
+        (path / "mapping.clio").symlink_to("/dev/zero")
+        with self.assertRaisesRegex(CannotRead, "no file"):
+            Folder(str(path)).read()
+        os.mkfifo(path / "drawing.clio")
+        with self.assertRaisesRegex(CannotRead, "no file"):
+            Folder(str(path)).read()
+
     def test_a_new_mapping(self) -> None:
         path = draw_trial.copy_of("teams")
         (path / "mapping.clio").unlink()
@@ -241,6 +252,26 @@ class Command(Trial):
             taken.bind(("127.0.0.1", 0))
             taken.listen()
             self.refused("clio-draw", "--port", str(taken.getsockname()[1]), why="Address already in use")
+
+    def test_no_code_of_the_folder_runs(self) -> None:
+        """A folder of somebody else may have modules with the names of Python's own, or of the tools'."""
+        code = "open('RAN', 'w').close()\n"
+        for name in "json.py", "signal.py", "clio_tools/__init__.py", "clio_tools/draw/worker.py":
+            self.file(name, code)
+        self.file("mapping.clio", (draw_trial.EXAMPLES / "teams" / "mapping.clio").read_bytes())
+        with subprocess.Popen([sys.executable, "-B", TOOLS / "clio-draw"], stdout=subprocess.PIPE, text=True,
+                              cwd=self.folder) as process:
+            assert process.stdout is not None
+            address = urllib.parse.urlsplit(process.stdout.readline().strip())
+            connection = http.client.HTTPConnection(address.netloc, timeout=60)
+            connection.request("POST", f"{address.path}api/arrange", json.dumps({"text": "mapping 1;"}),
+                               {"Origin": f"http://{address.netloc}", "Content-Type": "application/json"})
+            made = json.loads(connection.getresponse().read())
+            connection.close()
+            process.terminate()
+            process.wait(20)
+        self.assertNotIn("ended", made.get("error", ""))
+        self.assertFalse((self.folder / "RAN").exists())
 
     def test_open_shows_the_secret_to_nobody(self) -> None:
         browser = self.file("browser", "#!/bin/sh\necho \"$@\" > \"$0.words\"\n")

@@ -3,6 +3,7 @@ import hashlib
 import os
 import pathlib
 import shutil
+import stat
 from dataclasses import dataclass
 
 from ..program import Refused
@@ -77,16 +78,21 @@ class Folder:
         return DRAWING if os.path.lexists(self.path / DRAWING) else MAPPING
 
     def content(self, name: str) -> bytes | None:
-        """The bytes of a file, or None if there is none."""
+        """The bytes of a file, or None if there is none. What is no file, as a pipe or a link to a device, isn't read:
+        it may never end."""
         path = self.path / name
         try:
-            if path.stat().st_size > MOST_BYTES:
-                raise CannotRead(f"{name} is longer than clio reads")
-            return path.read_bytes()
+            if not stat.S_ISREG(path.stat().st_mode):
+                raise CannotRead(f"{name} is no file: take it away")
+            with path.open("rb") as file:
+                content = file.read(MOST_BYTES + 1)
         except FileNotFoundError:
             return None
         except OSError as error:
             raise CannotRead(f"{name}: {error.strerror}") from None
+        if len(content) > MOST_BYTES:
+            raise CannotRead(f"{name} is longer than clio reads")
+        return content
 
     def read(self) -> Read:
         """The text as it is on the disk."""

@@ -35,12 +35,13 @@ class Helper:
                             "PATH": os.path.dirname(clio) + os.pathsep + os.environ.get("PATH", "")}
 
     def start(self) -> subprocess.Popen[bytes]:
-        """A worker in a process group of its own, so that it can be ended with what it runs."""
+        """A worker in a process group of its own, so that it can be ended with what it runs. It takes no module from
+        the current folder, which may be somebody else's."""
         self.left = b""
         before = signal.pthread_sigmask(signal.SIG_BLOCK, {signal.SIGUSR1})  # until the worker has its handler
         try:
             self.process = subprocess.Popen(  # pylint: disable=consider-using-with
-                [sys.executable, "-m", "clio_tools.draw.worker", str(self.folder), self.room, self.kind],
+                [sys.executable, "-P", "-m", "clio_tools.draw.worker", str(self.folder), self.room, self.kind],
                 env=self.environment, stdin=subprocess.PIPE, stdout=subprocess.PIPE, start_new_session=True)
         finally:
             signal.pthread_sigmask(signal.SIG_SETMASK, before)
