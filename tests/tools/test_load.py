@@ -391,8 +391,8 @@ class Common(Loads):
                       "('Ulm', 'DE')")
         self.base.run("INSERT INTO customer (cid, mail) VALUES (50, 'ann@x')")
         self.source(FIRST)
-        self.refused("clio-load", *self.base.words, "--ids", "ids.db", why="nothing is changed; if a row that has this is "
-                     "the same thing with another number, take --identity")
+        self.refused("clio-load", *self.base.words, "--ids", "ids.db", why="nothing is changed; if a row that has "
+                     "this is the same thing with another number, take --identity")
         _, printed = self.dry("--identity", "--others")
         self.assertIn("town: 2 to insert, 0 to change, 0 to delete, 1 equal, 1 of others", printed)
         self.load("--identity")
@@ -480,7 +480,7 @@ class Common(Loads):
         began = time.monotonic()
         self.dry()
         took = time.monotonic() - began
-        for part in 0.5, 0.7, 0.85, 0.95:
+        for part in 0.6, 0.9:
             self.source(source)
             run = subprocess.Popen([sys.executable, "-B", TOOLS / "clio-load", *self.base.words, "--ids", "ids.db",
                                     "--delete"],
@@ -515,7 +515,7 @@ class OnSqlite(Common):
         path = self.folder / "house.db"
         content = path.read_bytes()
         with locked(path):
-            self.refused("clio-load", *self.base.words, "--ids", "ids.db", "--delete",
+            self.refused("clio-load", *self.base.words, "--ids", "ids.db", "--delete", "--wait", "1",
                          why="somebody else has it locked; try again; nothing is changed")
         self.assertEqual(path.read_bytes(), content)
 
@@ -564,7 +564,7 @@ class OnPostgres(Common):
         self.source(changed(FIRST, word=[]))
         with self.base.session.transaction():
             self.base.run('LOCK TABLE "product label" IN SHARE MODE')
-            self.refused("clio-load", *self.base.words, "--ids", "ids.db", "--delete",
+            self.refused("clio-load", *self.base.words, "--ids", "ids.db", "--delete", "--wait", "1",
                          why="somebody else uses these tables; nothing is changed")
         self.assertEqual(len(self.base.state()["product label"]), 3)
 

@@ -50,14 +50,16 @@ CSV, with or without `--dry-run`: NULL is ? there, and a text that begins with ?
 `--log TABLE` adds a row to a table, which is made if it isn't there: when, which mapping and sources (SHA-256),
 options, and how many rows of each table.
 
+`--wait SECONDS` waits so long for a lock of somebody else, ten seconds if it is left out.
+
 `--name NAME` tells the loads of several mappings into the same tables apart: the rows that a load of another name wrote
 are not its own. The name is clio if it is left out.
 
 PLACES
 The record of the rows that loads have written is the table clio_load.written in PostgreSQL, clio_load_written in an
-SQLite file. Sequences are set behind the greatest number; nothing else of the schema is changed. A lock of somebody
-else is waited for ten seconds. In PostgreSQL, timestamps without a zone are of UTC in columns that have one. CONNECTION
-is what `psql -d` takes; SCHEMA is public if it is left out.
+SQLite file. Sequences are set behind the greatest number; nothing else of the schema is changed. In PostgreSQL,
+timestamps without a zone are of UTC in columns that have one. CONNECTION is what `psql -d` takes; SCHEMA is public if
+it is left out.
 
 EXIT STATUS
 0 if all was done, or a dry run found no difference; 1 if it found one; 2 if something was refused. What clio refuses
@@ -81,6 +83,7 @@ from clio_tools.load.workspace import Workspace, mapping_here
 from clio_tools.program import Refused, remark, run, stop_by_exception
 
 NAME = "clio-load"
+WAIT = 10  # seconds for a lock of somebody else
 
 
 def asked(words: list[str]) -> argparse.Namespace:
@@ -97,6 +100,8 @@ def asked(words: list[str]) -> argparse.Namespace:
     given = parser.parse_args(words)
     if (given.out is None) != (given.summary is None):
         parser.error("--out and --summary go together")
+    if not 1 <= given.wait <= 86400:
+        parser.error("--wait takes a number of seconds from 1 to 86400")
     if given.identity and given.ids is None:
         parser.error("--identity needs --ids: the crosswalk keeps the numbers that the database gives")
     return given
@@ -124,6 +129,7 @@ def add_options(parser: argparse.ArgumentParser) -> None:
     add("--others", action="store_true", help="rows that no load wrote are no difference")
     add("--diff", metavar="FILE", help="write all that differs as CSV")
     add("--adopt", action="store_true", help="rows that no load wrote are the things whose numbers they have")
+    add("--wait", type=int, default=WAIT, metavar="SECONDS", help="wait so long for a lock of somebody else")
     add("--log", metavar="TABLE", help="add a row to this table")
     add("--name", default="clio", metavar="NAME", help="the name of these loads")
 
@@ -143,9 +149,9 @@ def database_of(given: argparse.Namespace) -> Database:
     """The database that is loaded."""
     if given.kind == "sqlite":
         from clio_tools.load.sqlite import Sqlite
-        return Sqlite(given.place)
+        return Sqlite(given.place, given.wait)
     from clio_tools.load.postgres import Postgres
-    return Postgres(given.place, given.schema)
+    return Postgres(given.place, given.schema, given.wait)
 
 
 @contextlib.contextmanager

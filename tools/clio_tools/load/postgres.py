@@ -16,7 +16,6 @@ from clio_tools.load.postgres_values import altered, plain_pieces, value_of, wit
 from clio_tools.load.plan import Plan, TablePlan
 from clio_tools.program import Refused
 
-WAIT = "10s"  # for a lock of somebody else
 SETTINGS = {**postgres.SETTINGS, "work_mem": "64MB", "client_min_messages": "warning"}
 SCHEMA = "clio_load"  # of the tool's own tables
 KINDS = {"bool": BOOLEAN, "int2": INTEGER, "int4": INTEGER, "int8": INTEGER, "numeric": NUMBER, "float4": NUMBER,
@@ -61,8 +60,9 @@ class Postgres(Database):
     now = "CURRENT_TIMESTAMP"
     overriding = " OVERRIDING SYSTEM VALUE"
 
-    def __init__(self, connection: str, schema: str) -> None:
-        self.connection, self.schema = connection, schema
+    def __init__(self, connection: str, schema: str, wait: int) -> None:
+        """Begins a session; `wait` are the seconds in which somebody else's lock may end."""
+        self.connection, self.schema, self.wait = connection, schema, wait
         self.session = Session(connection, **SETTINGS)
         self.session.run("SET search_path = ''")
         self.marked_files: set[int] = set()  # the plans in whose files a text begins with ?, as far as that is known
@@ -110,7 +110,7 @@ class Postgres(Database):
             return
         try:
             with self.session.transaction():
-                self.run(f"SET LOCAL lock_timeout = '{WAIT}'")
+                self.run(f"SET LOCAL lock_timeout = '{self.wait}s'")
                 tables = ", ".join(sorted(one.table.sql for one in plan.tables))
                 if tables:
                     self.run(f"LOCK TABLE {tables} IN SHARE ROW EXCLUSIVE MODE; SET CONSTRAINTS ALL DEFERRED")

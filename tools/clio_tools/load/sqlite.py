@@ -17,7 +17,6 @@ from clio_tools.load.database import Cells, Database, DoesNotFit, Misfit, Option
 from clio_tools.load.plan import Plan, TablePlan
 from clio_tools.program import Refused, stop_by_exception
 
-WAIT = 10  # seconds for a lock of somebody else
 CACHE = 65536  # KiB of the file, and of work tables, that are held in memory
 OWN = "clio_load_"  # how the tool's own tables begin
 WORDS = {"t": 1, "true": 1, "y": 1, "yes": 1, "on": 1, "f": 0, "false": 0, "n": 0, "no": 0, "off": 0}
@@ -38,14 +37,15 @@ class Sqlite(Database):
     place = "_rowid_"
     now = "CURRENT_TIMESTAMP"
 
-    def __init__(self, path: str) -> None:
+    def __init__(self, path: str, wait: int) -> None:
+        """Opens a file; `wait` are the seconds in which somebody else's lock may end."""
         self.path = path
         if not pathlib.Path(path).is_file():
             raise Refused(f"{path} is no file: clio-load fills tables that are there")
         stop_by_exception()
         address = f"file:{urllib.parse.quote(os.fsencode(pathlib.Path(path).resolve()))}?mode=rw"
         with self.told():
-            self.base = sqlite3.connect(address, uri=True, isolation_level=None, timeout=WAIT)
+            self.base = sqlite3.connect(address, uri=True, isolation_level=None, timeout=wait)
             self.base.text_factory = lambda content: content.decode("utf-8", "surrogateescape")
             for schema in "main", "temp":
                 self.base.execute(f"PRAGMA {schema}.cache_size = -{CACHE}")
