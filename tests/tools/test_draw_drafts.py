@@ -68,6 +68,7 @@ class Drafts(Page):
         self.line("Countries.Name", "sale.bill_name", "by Bill")
         self.line("Countries", "sale.ship", "by Ship")
         self.until_text("rows sale from Ship_Orders;")
+        self.settled()
         self.browser.click('#target [data-key="land"] .menu')
         script = "[...document.querySelectorAll('#inspector button')].find((b) => b.textContent === 'Countries')"
         self.browser.until(script)
