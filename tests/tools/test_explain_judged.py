@@ -245,7 +245,7 @@ class Compared(Folder):
             '      nearest: tid = ?0.1.0, label = "v1", town = ?0.2.0; it differs in town']
         self.assertEqual(self.compared(text, less), wanted)
         names = {"mapping.clio": "other.clio", "other.clio": "mapping.clio"}
-        turned = [re.sub("mapping.clio|other.clio", lambda name: names[name[0]], line) for line in wanted]
+        turned = [re.sub("mapping.clio|other.clio", lambda name: names[str(name[0])], line) for line in wanted]
         self.assertEqual(self.compared(less, text), turned)
 
     def test_compare_bounds(self) -> None:

@@ -13,9 +13,11 @@ import random
 import shutil
 import subprocess
 import unittest
+from collections.abc import Callable
+from typing import Any, TypeVar
 
 from matches import canonical, places_of
-from random_cases import random_case
+from random_cases import Case, random_case
 from refusals import Limit, TooLong
 from trial import PROGRAM, TOP, Trial
 from values import value_text
@@ -27,9 +29,11 @@ from clio_tools.why.reasons import Reasons
 ROWS = int(os.environ.get("WHY_ROWS", "10"))
 RANDOM = int(os.environ.get("WHY_RANDOM", "6"))
 KINDS = ["rules", "lines", "mixed", "keyed", "optional", "dependent"]
-CONVERSIONS = {"trim": lambda text: text.strip(" "),
-               "digits": lambda text: "".join(one for one in text if one in "0123456789"),
-               "pair": lambda one, other: f"{one} {other}"}
+Item = TypeVar("Item")
+CONVERSIONS: dict[str, Callable[..., str]] = {
+    "trim": lambda text: str(text).strip(" "),
+    "digits": lambda text: "".join(one for one in text if one in "0123456789"),
+    "pair": lambda one, other: f"{one} {other}"}
 
 
 def is_null(value: str) -> bool:
@@ -37,7 +41,7 @@ def is_null(value: str) -> bool:
     return value[:1] == "?" and value[1:2] != "?"
 
 
-def some(listed: list, count: int) -> list:
+def some(listed: list[Item], count: int) -> list[Item]:
     """Some of a list, from its begin to its end."""
     if len(listed) <= count:
         return listed
@@ -53,7 +57,8 @@ class Files:
     """The files of a folder, read in another way: records with the line on which each begins, and documents."""
 
     def __init__(self, folder: pathlib.Path) -> None:
-        self.folder, self.read = folder, {}
+        self.folder = folder
+        self.read: dict[str, Any] = {}
 
     def texts(self, row: SourceRow) -> list[str]:
         """What is in the file where a row is said to be."""
@@ -124,9 +129,8 @@ class Why(Trial):
         for match in reason.asked:
             self.assertEqual(tuple(fold.get(value, value) for value in match.row), row)
             self.assertTrue(match.sources)
-            for one in match.sources:
-                for source in one:
-                    self.assertEqual(list(source.texts), self.files.texts(source))
+            for source in (source for sources in match.sources for source in sources):
+                self.assertEqual(list(source.texts), self.files.texts(source))
         for one in reason.replaced:
             self.assertNotEqual(one.by, "unknown")
             self.assertEqual(fold[one.null], fold.get(one.value, one.value))
@@ -182,7 +186,7 @@ class Why(Trial):
         """All mappings of the examples, plain and core."""
         count = 0
         for path in sorted((TOP / "examples").rglob("mapping.clio")):
-            for words in [], ["--core"]:
+            for words in (), ("--core",):
                 folder = self.folder / "example"
                 shutil.rmtree(folder, ignore_errors=True)
                 folder.mkdir()
@@ -212,7 +216,7 @@ class Why(Trial):
                     self.try_random(case, number % 2 == 1, counts)
         self.assertGreater(min(counts.values()), 10, counts)
 
-    def try_random(self, case, is_core: bool, counts: dict[str, int]) -> None:
+    def try_random(self, case: Case, is_core: bool, counts: dict[str, int]) -> None:
         """One random case."""
         folder = self.folder / "case"
         shutil.rmtree(folder, ignore_errors=True)

@@ -213,8 +213,7 @@ class Said(Trial):
                 self.assertEqual(row.values[1], str(number))
                 fact, = reasons.source_rows("key", {"set": text})
                 there = words.of_row(reasons.row("line", row.values), "here")
-                for said in there, words.of_source_row(reasons.source_fact(fact)):
-                    lines = list(said)
+                for lines in list(there), list(words.of_source_row(reasons.source_fact(fact))):
                     self.assertTrue(all(line.isprintable() for line in lines), lines)
                     self.assertIn(f'"{number}"', " ".join(lines))
         for text in HOSTILE[1], HOSTILE[2], HOSTILE[10]:
