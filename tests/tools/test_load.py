@@ -587,6 +587,23 @@ class OnPostgres(Common):
                      "3 misfits"):
             self.assertIn(part, said)
 
+    def test_rights(self) -> None:
+        """Who may make no schema for the record is told what to do; a dry run needs none."""
+        self.base.run("CREATE TABLE thing (a TEXT PRIMARY KEY)")
+        if self.base.rows("SELECT to_regnamespace('clio_load')") != [(None,)]:
+            self.base.run("ALTER SCHEMA clio_load RENAME TO clio_load_before")
+            self.addCleanup(self.base.run, "ALTER SCHEMA clio_load_before RENAME TO clio_load")
+        self.base.run(f'CREATE ROLE guest LOGIN; GRANT USAGE ON SCHEMA "{self.base.words[2]}" TO guest; '
+                      "GRANT ALL ON thing TO guest")
+        self.addCleanup(self.base.run, "DROP OWNED BY guest; DROP ROLE guest")
+        self.file("mapping.clio", "mapping 1; source { set s { a; } } target { set thing { a; key (a); } } "
+                                  "rule s(x) -> thing(x);")
+        self.file("s.csv", "a\nx\n")
+        words = ["postgres", PLACE[0].replace("user=clio", "user=guest"), self.base.words[2]]
+        self.assertEqual(self.tool("clio-load", *words, "--dry-run")[0], 1)
+        self.refused("clio-load", *words, why='CREATE SCHEMA clio_load AUTHORIZATION "guest"; nothing is changed')
+        self.assertEqual(self.base.rows("SELECT a FROM thing"), [])
+
     def test_partitions(self) -> None:
         """Rows of a table in parts have no places of their own, so without a key they can't be told apart."""
         self.base.run("CREATE TABLE part (a TEXT, b INTEGER) PARTITION BY LIST (a); CREATE TABLE part1 PARTITION OF "

@@ -49,6 +49,7 @@ FOREIGN_KEYS = f"""SELECT s.nspname, c.relname, {NAMES.format('r.conkey', 'r.con
  WHERE r.contype = 'f' AND r.conparentid = 0 AND n.nspname = %s ORDER BY 1, 2, r.conname"""
 TRIAL = """CREATE OR REPLACE FUNCTION pg_temp.clio_fits(cell text) RETURNS boolean LANGUAGE plpgsql AS $clio$
  DECLARE made {0}; BEGIN made := cell; RETURN true; EXCEPTION WHEN others THEN RETURN false; END $clio$"""
+NO_RIGHT = "42501"
 LOCKED = "55P03", "40P01"
 
 
@@ -237,7 +238,14 @@ class Postgres(Database):
         return "gen_random_uuid()" if column.type == "uuid" else None
 
     def make_record(self, name: str, columns: str) -> str:
-        self.run(f"CREATE SCHEMA IF NOT EXISTS {SCHEMA}; CREATE TABLE IF NOT EXISTS {SCHEMA}.{name} ({columns})")
+        try:
+            self.run(f"CREATE SCHEMA IF NOT EXISTS {SCHEMA}; CREATE TABLE IF NOT EXISTS {SCHEMA}.{name} ({columns})")
+        except DatabaseError as error:
+            if error.sqlstate != NO_RIGHT:
+                raise
+            user = identifier(self.session.connection.info.user)
+            raise Refused(f"{error.cause}: the record of rows that loads have written needs a schema: CREATE SCHEMA"
+                          f" {SCHEMA} AUTHORIZATION {user}; nothing is changed") from None
         return f"{SCHEMA}.{name}"
 
     def make_log(self, name: str, columns: str) -> str:
