@@ -199,7 +199,13 @@ class Common(Loads):
         self.assertIn("customer: 0 inserted, 1 changed (gone 1), 0 deleted, 1 equal", self.load("--mark", "gone"))
         self.assertEqual(self.base.all(marks), [("ann@x", false), ("bob@x", false), ("cyd@x", true)])
         self.refused("clio-load", *self.base.words, "--ids", "ids.db", "--mark", "nothing",
-                     why='no column "nothing" to mark rows by')
+                     why="--mark nothing: no table has a column of this name to mark rows by")
+        self.source(FIRST)
+        self.load("--mark", "gone")
+        self.source(changed(FIRST, word=[], client=FIRST["client"][:2]))
+        printed = self.load("--mark", "gone")
+        self.assertIn("customer: 0 inserted, 0 changed, 0 deleted, 1 marked, 2 equal", printed)
+        self.assertIn('"product label": 0 inserted, 0 changed, 0 deleted, 0 equal, 3 kept', printed)
 
     def test_others(self) -> None:
         """Rows of others are not touched, an audit tells them, and no thing gets their numbers."""

@@ -25,8 +25,8 @@ OPTIONS
 own leads, or else the next one, as an identity column has it, and the crosswalk keeps it.
 
 `--delete`, `--mark COLUMN` or `--keep` says what becomes of rows that a former load wrote and the target no longer has:
-they are deleted, or COLUMN is set (to true, 1 or the time), or they are kept, which is the default. Rows that no load
-has written are never touched if the target doesn't have them.
+they are deleted, or COLUMN is set in them (to true, 1 or the time) in the tables that have it, or they are kept, which
+is the default. Rows that no load has written are never touched if the target doesn't have them.
 
 `--keep-referred` keeps rows that are to be deleted and to which rows refer that stay; without it such rows are listed,
 and nothing is changed. Nothing is deleted by a cascade.

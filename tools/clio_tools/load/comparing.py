@@ -182,8 +182,10 @@ class Comparison:
         if plan.key is None:
             row, place = "h", "h.place"
             joined += f" JOIN {plan.work('here')} AS h ON h.place = t.{self.database.place}"
-        gone = "w.row_key IS NOT NULL AND v.row_key IS NULL" if self.gone != KEEP else "1 = 0"
-        if self.gone == MARK and plan.mark is not None:
+        gone = "w.row_key IS NOT NULL AND v.row_key IS NULL"
+        if self.gone == KEEP or (self.gone == MARK and plan.mark is None):
+            gone = "1 = 0"
+        elif self.gone == MARK and plan.mark is not None:
             gone += f" AND NOT ({self.database.is_marked(f't.{identifier(plan.mark.name)}', plan.mark)})"
         lacks = f"n.c{plan.key[0]}" if plan.key is not None else "n.m"
         return (f"CREATE TEMP TABLE {plan.work('extra')} AS SELECT {columns}, {place} AS place, {text} AS m,"

@@ -86,6 +86,8 @@ def plan_of(sets: list[Set], catalog: Catalog, wanted: Wanted) -> Plan:
         plan.tables.append(table_plan(len(plan.tables), one, table, wanted, plan.misfits))
     if wanted.keys:
         raise Refused(f"--key {next(iter(wanted.keys))}: the target has no such table")
+    if wanted.mark is not None and plan.tables and not any(one.mark for one in plan.tables):
+        raise Refused(f"--mark {wanted.mark}: no table has a column of this name to mark rows by")
     plan.tables = in_order(plan)
     return plan
 
@@ -143,11 +145,10 @@ def keys_of(plan: TablePlan, chosen: list[str] | None) -> list[list[int]]:
 
 
 def mark_of(table: Table, name: str, known: set[str], misfits: list[str]) -> Column | None:
-    """The column that marks rows which the target no longer has."""
+    """The column that marks rows which the target no longer has, if the table has it."""
     column = table.column(name)
-    if column is None or name in known:
-        misfits.append(f"table {shown(table.name)} has no column {shown(name)} to mark rows by" if column is None else
-                       f"table {shown(table.name)}: the mapping fills {shown(name)}, so it can't mark rows")
+    if column is not None and name in known:
+        misfits.append(f"table {shown(table.name)}: the mapping fills {shown(name)}, so it can't mark rows")
     return column
 
 
