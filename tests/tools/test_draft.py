@@ -128,7 +128,7 @@ class Sqlite(Draft):
         values = [None, "", "7", 7, -(2**63), 0.1 + 0.2, 1e300, 12.0]
         self.base("CREATE TABLE v (x, y)", [("INSERT INTO v VALUES (?, ?)", (value, "k")) for value in values])
         _, _, said = self.tool("clio-draft", "sqlite", "old.db", "--data", "data")
-        self.assertIn("v.x: NULL, which stands there once, and the empty text, once, are both written", said)
+        self.assertIn("v.x: NULL (once) and the empty text (once) are both written", said)
         cells = [row[0] for row in clio_csv.read_table(self.folder / "data/v.csv", ["x", "y"])]
         self.assertEqual(cells, ["", "", "7", "7", "-9223372036854775808", "0.30000000000000004", "1e+300", "12.0"])
 

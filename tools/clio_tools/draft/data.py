@@ -58,8 +58,8 @@ class Written:
         self.cells += count * len(order)
         for word, null, empty in zip(words, nulls, empties):
             if null and empty and not self.null:
-                both = f"NULL, which stands there {times(null)}, and the empty text, {times(empty)}"
-                self.remark(f"{table.word}.{word}: {both}, are both written as the empty text: --null TEXT keeps them"
+                both = f"NULL ({times(null)}) and the empty text ({times(empty)})"
+                self.remark(f"{table.word}.{word}: {both} are both written as the empty text: --null TEXT keeps them"
                             " apart")
 
     def text(self, cell: str | None, column: str) -> str:
