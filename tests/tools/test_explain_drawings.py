@@ -56,6 +56,16 @@ class Explained(Trial):
         self.printed("clio-rules", "--write")
         self.assertEqual(self.clio("exchange")[0], 0)
 
+    def test_a_drawing_without_its_mapping(self) -> None:
+        """The text has its name, and what makes the mapping of it is said."""
+        self.file("drawing.clio", f"mapping 1;\n{self.SOURCE}target {{ set leg {{ no; }} }}\nrows leg from f;\n"
+                  "line f.no -> leg.no;\n")
+        said = self.tool("clio-explain", "show")[2]
+        self.assertIn("there is drawing.clio: clio-rules --write makes mapping.clio of it", said)
+        self.assertNotIn("rename it", said)
+        self.printed("clio-rules", "--write")
+        self.assertEqual(self.clio("show")[0], 0)
+
     def test_limits_of_lines(self) -> None:
         refs = "".join(f" ref (k{n}) -> d (id) optional;" for n in range(8))
         keys = ", ".join(f"k{n}" for n in range(8))

@@ -49,7 +49,9 @@ def absent() -> Iterator[str]:
     if os.path.islink("mapping.clio"):
         yield f"mapping.clio is a link to {visible(os.readlink('mapping.clio'))}, which isn't there"
     alike = mappings_here()
-    if alike:
+    if "drawing.clio" in alike:
+        yield "there is drawing.clio: clio-rules --write makes mapping.clio of it"
+    elif alike:
         yield f"there is {listed(alike)}: rename it, or link it: ln -s {visible(alike[0])} mapping.clio"
     below = [name for name in sorted(os.listdir(".")) if os.path.isfile(os.path.join(name, "mapping.clio"))]
     if below:
