@@ -149,6 +149,25 @@ class Refusals(Trial):
         status, _, said = self.tool("clio-rules")
         self.assertEqual((status, said.count("^")), (2, len("customer" + "stray")))
 
+    def test_a_key_of_which_a_link_is_a_part(self) -> None:
+        """What makes two visits one is the place, to which a ref leads that may be missing; and each link of a row has
+        its fault."""
+        text = ("mapping 1;\nsource { set shop { code; } set ord { no, day, at; ref (at) -> shop (code); }\n"
+                "  set item { ord, what, sold; ref (ord) -> ord (no); ref (sold) -> shop (code); } }\n"
+                "target { set place { pid, code; key (pid); key (code); }\n"
+                "  set visit { vid, place, day; key (vid); key (place, day); ref (place) -> place (pid); }\n"
+                "  set thing { visit, place, what; ref (visit) -> visit (vid); ref (place) -> place (pid); } }\n"
+                "rows place from shop;\nline shop.code -> place.code;\nrows visit from ord;\n"
+                "line ord.day -> visit.day;\nrows thing from item with ord, sold;\nline item.what -> thing.what;\n")
+        self.file("drawing.clio", text)
+        self.refused("clio-rules", why="thing leads to visit, and what makes two rows of visit one is not there for "
+                     "each ord: write rows visit from ord with at;")
+        self.refused("clio-rules", why="thing.place could lead to place in several ways: say which, line shop -> "
+                     "thing.place by ord.at; line shop -> thing.place by sold;")
+        text = text.replace("from ord;", "from ord with at;").replace("with ord, sold;", "with ord.at, sold;")
+        self.file("drawing.clio", text + "line shop -> thing.place by sold;\n")
+        self.printed("clio-rules")
+
     def test_a_set_without_rows_that_lines_refuse(self) -> None:
         refs = "".join(f" ref (r{n}) -> a (x) optional;" for n in range(8))
         columns = ", ".join(f"r{n}" for n in range(8))

@@ -2,7 +2,7 @@
 from typing import Optional
 
 from .model import Drawing, Rows, Use
-from .terms import Cell, Open, Row, Var, after
+from .terms import Cell, Need, Open, Row, Var, after
 from .ways import spelled
 
 
@@ -36,14 +36,23 @@ def key_of(drawing: Drawing, rows: Rows) -> Optional[tuple[int, ...]]:
 
 
 def ways_for_key(drawing: Drawing, rows: Rows) -> list[str]:
-    """The ways that would have to be there for the first key that lines fill."""
+    """The ways that would have to be there for the first key that lines and links fill."""
     table = drawing.target_of(rows)
     for key in table.keys:
-        values = [rows.values.get(column, []) for column in key if table.columns[column] != "#up"]
-        if values and all(values):
-            ways = [max(one[0].need.ways - rows.base.ways, key=len, default=()) for one in values]
+        needs = [_need_of(rows, column) for column in key if table.columns[column] != "#up"]
+        found = [need for need in needs if need is not None]
+        if found and len(found) == len(needs):
+            ways = [max(need.ways - rows.base.ways, key=len, default=()) for need in found]
             return sorted({spelled(way) for way in ways if way})
     return []
+
+
+def _need_of(rows: Rows, column: int) -> Optional[Need]:
+    """What a column of a row needs for its value, or for its link; None if nothing fills it."""
+    values = rows.values.get(column)
+    if values:
+        return values[0].need
+    return next((use.need for use in rows.uses if column in use.link.own), None)
 
 
 def known(drawing: Drawing, rows: Rows) -> tuple[dict[int, Cell], list[Row]]:

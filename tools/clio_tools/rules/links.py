@@ -53,7 +53,10 @@ def _work_out(drawing: Drawing, rows: Rows) -> None:
         raise wrong(rows.note.by[0], f"{table.name} is no inner set, so its rows are in nothing: write `by` on a line")
     for link in table.links:
         if not link.is_up:
-            _link(drawing, rows, link)
+            try:
+                _link(drawing, rows, link)
+            except Wrong as why:
+                drawing.faults.append(why.fault)
     for need in [value.need for values in rows.values.values() for value in values] + [use.need for use in rows.uses]:
         rows.base |= Need(frozenset(way for way in need.ways if _is_sure(drawing, way)))
     rows.key = key_of(drawing, rows)
