@@ -177,6 +177,23 @@ class Refusals(Trial):
         self.refused("clio-rules", why="the lines to v, which has no `rows`, are refused (limit: variants 256): say "
                      "from which set its rows come")
 
+    def test_sets_whose_refs_alone_have_lines(self) -> None:
+        """Lines to far sets would make their rows in too many ways: all such sets are named, and no line is said to
+        lead to them."""
+        refs = "".join(f" ref (r{n}) -> a (x) optional;" for n in range(8))
+        columns = ", ".join(f"r{n}" for n in range(8))
+        far = "".join(f" set {name} {{ id, one; key (id); ref (one) -> u (ux); }}" for name in ("v", "w"))
+        text = (f"mapping 2;\nsource {{ set a {{ x; }} set b {{ y, {columns};{refs} }} }}\n"
+                f"target {{ set t {{ tx; }} set u {{ ux; key (ux); }}{far} }}\n"
+                "rows t from a;\nrows u from a;\nline a.x -> t.tx;\nline a.x -> u.ux;\n")
+        self.file("drawing.clio", text)
+        for name in "v", "w":
+            self.refused("clio-rules", why=f"{name} has no `rows`, and would get rows by the lines to sets that its refs "
+                         "lead to: too many (limit: variants 256): say from which set its rows come, rows "
+                         f"{name} from SET;")
+        self.file("drawing.clio", text + "rows v from a;\nrows w from a;\nline a.x -> v.id;\nline a.x -> w.id;\n")
+        self.printed("clio-rules")
+
 
 class Writing(Trial):
     DRAWING = HEAD + ROWS + 'line "x" -> sale.kind where note = "x";\nline ord.note -> sale.who where note filled;\n'

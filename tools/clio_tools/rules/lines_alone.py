@@ -33,11 +33,19 @@ def rules_without_notes(drawing: Drawing) -> list[Rule]:
     """The rules of plain lines for the target sets that have no `rows`, as the program has them.
 
     They are asked for one set after the other, with what it leads to alone: so no rule is left out since one follows
-    from it that another set has, and which the notes leave out."""
+    from it that another set has, and which the notes leave out. The faults of the
+    drawing get one for each set that the program refuses, and the first is raised."""
     found: list[Rule] = []
+    refused: list[Wrong] = []
     for table in drawing.targets:
         if table.number not in drawing.noted:
-            found += _rules_of_set(drawing, table)
+            try:
+                found += _rules_of_set(drawing, table)
+            except Wrong as why:
+                refused.append(why)
+    if refused:
+        drawing.faults += [why.fault for why in refused]
+        raise refused[0]
     return found
 
 
@@ -59,10 +67,11 @@ def _rules_of_set(drawing: Drawing, table: Table) -> list[Rule]:
 
 
 def _refused(drawing: Drawing, table: Table, message: str) -> Wrong:
-    """The refusal of lines to a set without `rows`."""
-    return wrong(table.text.name, f"the lines to {table.name}, which has no `rows`, are refused ({message}): say from "
-                 f"which "
-                                  f"set its rows come, rows {table.name} from SET;")
+    """The refusal of lines to a set without `rows`, or to what its refs lead to."""
+    whose = f"the lines to {table.name}, which has no `rows`, are refused"
+    if all(line.target.set.text != table.name for line in drawing.tree.lines):
+        whose = f"{table.name} has no `rows`, and would get rows by the lines to sets that its refs lead to: too many"
+    return wrong(table.text.name, f"{whose} ({message}): say from which set its rows come, rows {table.name} from SET;")
 
 
 def _root(drawing: Drawing, number: int) -> int:

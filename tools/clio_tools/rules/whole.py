@@ -61,7 +61,7 @@ def printed(drawing: Drawing) -> Printed:
     try:
         made = Printed(drawing)
     except Wrong as why:
-        raise Faulty([why.fault]) from None
+        raise Faulty(drawing.faults or [why.fault]) from None
     _, message = rules_by_clio(made.text)
     if message:
         past = limit_said(drawing, made, message)
