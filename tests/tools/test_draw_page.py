@@ -12,6 +12,9 @@ const q = p.getPointAtLength(p.getTotalLength() / 3), r = document.getElementByI
 return [q.x + r.x, q.y + r.y] })()"""
 COLOUR = "getComputedStyle(document.querySelector('%s')).backgroundColor"
 SELECTED = "(() => { const t = document.getElementById('text'); return t.value.slice(t.selectionStart, t.selectionEnd) })()"
+SAY = "(document.getElementById('whole').textContent = '%s', document.getElementById('status').textContent = '%s', 1)"
+PLACE = """(() => { const r = document.querySelector('#target .row').getBoundingClientRect();
+return [r.x, r.y, document.documentElement.scrollWidth] })()"""
 OTHER_PAGE = """fetch('api/live', { method: 'POST', headers: { 'Content-Type': 'application/json' }, body: JSON.stringify(
 { text: 'mapping 1; source { } target { }', core: false, rows: 9, whole: false }) })"""
 OPEN_ALL = """(() => { for (const s of ['source', 'target']) { clioDraw.sides[s].filter = '';
@@ -164,6 +167,19 @@ class Drawing(Page):
         self.browser.click("#save")
         self.browser.until("document.getElementById('status').textContent === 'saved'")
         self.assertTrue((folder / "mapping.clio").read_text().startswith("// mine"))
+
+
+class Steady(Page):
+    def test_what_the_page_says_moves_nothing(self) -> None:
+        """A row that is pressed stays below the pointer while a run ends."""
+        self.open(draw_trial.copy_of("teams"))
+        self.addCleanup(self.browser.size, 1400, 900)
+        self.settled()
+        for width in 1400, 1040, 700:
+            self.browser.size(width, 900)
+            places = [(self.browser.js(SAY % (whole, status)), self.browser.js(PLACE))[1]
+                      for whole in ("", "the whole source is being read") for status in ("", "saved", "word " * 80)]
+            self.assertEqual(places, places[:1] * 6, width)
 
 
 class Results(Page):
