@@ -168,6 +168,19 @@ class Refusals(Trial):
         self.file("drawing.clio", text + "line shop -> thing.place by sold;\n")
         self.printed("clio-rules")
 
+    def test_a_ref_that_may_be_missing_is_remarked_with_both_cures(self) -> None:
+        text = ("mapping 2;\nsource { set shop { code; } set item { what, sold; ref (sold) -> shop (code); } }\n"
+                "target { set place { pid, code; key (pid); key (code); }\n"
+                "  set thing { what, place; key (what); ref (place) -> place (pid); } }\n"
+                "rows place from shop;\nline shop.code -> place.code;\nrows thing from item;\n"
+                "line item.what -> thing.what;\nline shop -> thing.place by sold;\n")
+        self.file("drawing.clio", text)
+        self.assertIn("asks for a row of place of nulls: write `with sold`, or make it optional, if that is not meant",
+                      self.tool("clio-rules")[2])
+        for cured in text.replace("from item;", "from item with sold;"), text.replace("(pid); }", "(pid) optional; }"):
+            self.file("drawing.clio", cured)
+            self.assertEqual(self.tool("clio-rules")[2], "")
+
     def test_a_set_without_rows_that_lines_refuse(self) -> None:
         refs = "".join(f" ref (r{n}) -> a (x) optional;" for n in range(8))
         columns = ", ".join(f"r{n}" for n in range(8))
@@ -188,8 +201,8 @@ class Refusals(Trial):
                 "rows t from a;\nrows u from a;\nline a.x -> t.tx;\nline a.x -> u.ux;\n")
         self.file("drawing.clio", text)
         for name in "v", "w":
-            self.refused("clio-rules", why=f"{name} has no `rows`, and would get rows by the lines to sets that its refs "
-                         "lead to: too many (limit: variants 256): say from which set its rows come, rows "
+            self.refused("clio-rules", why=f"{name} has no `rows`, and would get rows by the lines to sets that its "
+                         "refs lead to: too many (limit: variants 256): say from which set its rows come, rows "
                          f"{name} from SET;")
         self.file("drawing.clio", text + "rows v from a;\nrows w from a;\nline a.x -> v.id;\nline a.x -> w.id;\n")
         self.printed("clio-rules")

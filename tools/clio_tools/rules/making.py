@@ -134,6 +134,9 @@ def _check_link(drawing: Drawing, rows: Rows, cells: dict[int, Cell], link: Link
                     f"the same rule a row of {other.name} would be there twice: give set {other.name} key "
                     f"({columns});, or "
                     "make the ref optional")
+    ways = [max(use.need.ways - rows.base.ways, key=len, default=()) for use in rows.uses if use.link is link]
+    cure = "make it optional"
+    if len(ways) == 1 and ways[0]:
+        cure = f"write `with {spelled(ways[0])}`, or make it optional,"
     drawing.remarks.append(f"the ref of {of} isn't optional, so a row of {drawing.target_of(rows).name} without one "
-                           f"asks "
-                           f"for a row of {other.name} of nulls: make it optional if that is not meant")
+                           f"asks for a row of {other.name} of nulls: {cure} if that is not meant")
