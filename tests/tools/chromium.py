@@ -3,11 +3,13 @@
 `--remote-debugging-pipe` makes Chromium read commands on descriptor 3 and answer on descriptor 4, each a JSON text that
 ends with a byte 0."""
 import base64
+import contextlib
 import json
 import os
 import pathlib
 import select
 import shutil
+import signal
 import subprocess
 import tempfile
 import time
@@ -16,6 +18,7 @@ from typing import Any
 PATH = shutil.which("chromium") or shutil.which("chromium-browser") or shutil.which("google-chrome")
 OPTIONS = ["--headless=new", "--no-sandbox", "--disable-gpu", "--remote-debugging-pipe", "--no-first-run",
            "--disable-extensions", "--disable-background-networking", "--force-prefers-reduced-motion"]
+ANSWER = 45  # seconds in which the browser answers a command
 KEYS = {"Enter": 13, "Escape": 27, "Delete": 46, "ArrowDown": 40, "ArrowUp": 38, "ArrowLeft": 37, "ArrowRight": 39,
         "Tab": 9, "Home": 36, "End": 35, "ContextMenu": 93}
 MIDDLE = """(() => { const e = document.querySelector(%s); if (!e) return null; e.scrollIntoViewIfNeeded?.();
@@ -27,10 +30,11 @@ class Failed(Exception):
 
 
 class Chromium:
-    """A browser with one page."""
+    """A browser with one page. One that doesn't answer in time is killed with all its processes, and `ended` is true."""
 
     def __init__(self, width: int = 1400, height: int = 900) -> None:
         assert PATH is not None
+        self.ended = False
         self.room = tempfile.mkdtemp(prefix="clio-draw-chromium-")
         to_read, self.writing = os.pipe()
         self.reading, to_write = os.pipe()
@@ -46,6 +50,7 @@ class Chromium:
             close_fds=False, start_new_session=True)
         os.close(to_read)
         os.close(to_write)
+        os.set_blocking(self.writing, False)
         self.number, self.left = 0, b""
         self.events: list[dict[str, Any]] = []
         self.session: str | None = None
@@ -67,25 +72,37 @@ class Chromium:
 
     def send(self, method: str, **words: object) -> dict[str, Any]:
         """Sends a command and waits for its answer; events are kept."""
+        if self.ended:
+            raise Failed("the browser was killed, since it didn't answer in time")
         self.number += 1
         message: dict[str, object] = {"id": self.number, "method": method, "params": words}
         if self.session:
             message["sessionId"] = self.session
-        os.write(self.writing, json.dumps(message).encode() + b"\0")
-        while True:
-            answer = self.message(120)
-            if answer.get("id") == self.number:
-                if "error" in answer:
-                    raise Failed(f"{method}: {answer['error'].get('message')}")
-                result: dict[str, Any] = answer["result"]
-                return result
-            self.events.append(answer)
+        end = time.monotonic() + ANSWER
+        try:
+            self.write(json.dumps(message).encode() + b"\0", end)
+            while (answer := self.message(end)).get("id") != self.number:
+                self.events.append(answer)
+        except TimeoutError:
+            self.kill()
+            raise TimeoutError(f"the browser doesn't answer {method} in {ANSWER} s: it is killed") from None
+        if "error" in answer:
+            raise Failed(f"{method}: {answer['error'].get('message')}")
+        result: dict[str, Any] = answer["result"]
+        return result
 
-    def message(self, seconds: float) -> dict[str, Any]:
-        """The next answer or event."""
+    def write(self, message: bytes, end: float) -> None:
+        """Writes a message before a time has come."""
+        while message:
+            if not select.select([], [self.writing], [], max(0, end - time.monotonic()))[1]:
+                raise TimeoutError
+            message = message[os.write(self.writing, message):]
+
+    def message(self, end: float) -> dict[str, Any]:
+        """The next answer or event before a time has come."""
         while b"\0" not in self.left:
-            if not select.select([self.reading], [], [], seconds)[0]:
-                raise TimeoutError("the browser is silent")
+            if not select.select([self.reading], [], [], max(0, end - time.monotonic()))[0]:
+                raise TimeoutError
             part = os.read(self.reading, 1 << 20)
             if not part:
                 raise Failed("the browser ended")
@@ -186,15 +203,38 @@ class Chromium:
 
     def close(self) -> None:
         """Ends the browser."""
+        if self.ended:
+            return
         try:
             self.send("Browser.close")
-        except (Failed, OSError, TimeoutError):
-            pass
-        try:
             self.process.wait(10)
-        except subprocess.TimeoutExpired:
-            os.killpg(self.process.pid, 9)
-            self.process.wait()
+        except (Failed, OSError, TimeoutError, subprocess.TimeoutExpired):
+            pass
+        self.kill()
+
+    def kill(self) -> None:
+        """Ends all processes of the browser that are left, whatever they do."""
+        if self.ended:
+            return
+        self.ended = True
+        for _ in range(2):  # those too that were started meanwhile
+            for member in members(self.process.pid):
+                with contextlib.suppress(ProcessLookupError):
+                    os.kill(member, signal.SIGKILL)
+            self.process.wait(10)
         os.close(self.reading)
         os.close(self.writing)
         shutil.rmtree(self.room, ignore_errors=True)
+
+
+def members(session: int) -> list[int]:
+    """The processes of a session, which a browser has of its own."""
+    found = []
+    for place in pathlib.Path("/proc").glob("[0-9]*/stat"):
+        try:
+            words = place.read_text().rpartition(")")[2].split()
+        except OSError:
+            continue
+        if int(words[3]) == session and words[0] != "Z":
+            found.append(int(place.parent.name))
+    return found

@@ -1,57 +1,74 @@
 """A page of clio-draw in Chromium, for the tests of the page."""
-import atexit
-import functools
 import json
 import pathlib
-import subprocess
-import sys
 import unittest
 
 import chromium
 import draw_trial
-from trial import TOOLS
 
 
-@functools.cache
-def browser() -> chromium.Chromium:
-    """The one browser of all scenarios."""
-    made = chromium.Chromium()
-    atexit.register(made.close)
-    return made
+MOST_SILENT = 2  # browsers that are killed before no other is started
+
+
+class Shared:
+    """The one browser of a module's scenarios; after one that was killed, since it didn't answer, there is another."""
+
+    def __init__(self) -> None:
+        self.one: chromium.Chromium | None = None
+        self.silent = 0
+
+    def browser(self) -> chromium.Chromium:
+        """The browser, which is started if there is none."""
+        if self.one is not None and self.one.ended:
+            self.one, self.silent = None, self.silent + 1
+        if self.silent == MOST_SILENT:
+            raise chromium.Failed(f"{MOST_SILENT} browsers didn't answer in time: no other is started")
+        if self.one is None:
+            try:
+                self.one = chromium.Chromium()
+            except TimeoutError:
+                self.silent += 1
+                raise
+        return self.one
+
+    def close(self) -> None:
+        """Ends the browser."""
+        if self.one is not None and not self.one.ended:
+            self.one.close()
+            self.one = None
+
+
+shared = Shared()
 
 
 class Page(unittest.TestCase):
     """Scenarios in one browser; after each nothing was complained of, and no request has left."""
-
-    browser: chromium.Chromium
 
     @classmethod
     def setUpClass(cls) -> None:
         if chromium.PATH is None:
             print("tools: clio-draw's page is left out, since there is no Chromium", flush=True)
             raise unittest.SkipTest("no Chromium")
-        cls.browser = browser()
+        unittest.addModuleCleanup(shared.close)
+
+    def setUp(self) -> None:
+        self.browser = shared.browser()
 
     def open(self, folder: pathlib.Path) -> None:
         """The page of a folder, after its first live run."""
-        self.server = subprocess.Popen(  # pylint: disable=consider-using-with
-            [sys.executable, TOOLS / "clio-draw", folder], stdout=subprocess.PIPE, text=True,
-            env=draw_trial.ENVIRONMENT)
+        server = self.enterContext(draw_trial.served(folder, env=draw_trial.ENVIRONMENT))
+        self.address = draw_trial.first_line(server)
         self.addCleanup(self.leave)
-        assert self.server.stdout is not None
-        self.address = self.server.stdout.readline().strip()
         self.browser.events.clear()
         self.browser.go(self.address)
         self.browser.until("globalThis.clioDraw && clioDraw.model.live !== null", 120)
 
     def leave(self) -> None:
-        """Ends the page and its server."""
-        self.browser.js("(clioDraw.model.saved = clioDraw.model.text, 1)")  # no question on leaving
+        """Leaves the page; its server ends then."""
+        if self.browser.ended:
+            return
+        self.browser.js("(globalThis.clioDraw && (clioDraw.model.saved = clioDraw.model.text), 1)")  # no question
         self.browser.go("about:blank")
-        self.server.terminate()
-        self.server.wait(10)
-        assert self.server.stdout is not None
-        self.server.stdout.close()
         self.assertEqual(self.browser.faults(), [])
         elsewhere = [url for url in self.browser.requests() if not url.startswith(self.address)]
         self.assertEqual([url for url in elsewhere if url != "about:blank"], [])

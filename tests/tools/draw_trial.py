@@ -1,17 +1,23 @@
 """What the tests of clio-draw share: the examples, a folder with a copy of one, and one with a large mapping."""
 import atexit
+import contextlib
 import csv
 import os
 import pathlib
 import random
+import select
 import shutil
+import subprocess
+import sys
 import tempfile
-from collections.abc import Iterator
+import time
+from collections.abc import Callable, Iterator
 
-from trial import PROGRAM, TOP
+from trial import PROGRAM, TOOLS, TOP
 
 EXAMPLES = TOP / "examples"
 os.environ["PATH"] = os.path.dirname(PROGRAM) + os.pathsep + os.environ["PATH"]  # the worker asks for the program there
+SECONDS = 60  # in which clio-draw prints its address, and whatever else a test waits for is there
 SETS, COLUMNS, LINES = 60, 800, 300  # of each side of the large mapping
 THINGS = ["customer", "order", "invoice", "product", "stock", "vendor", "payment", "branch", "contract", "ticket",
           "asset", "shipment"]
@@ -30,6 +36,37 @@ def room() -> pathlib.Path:
 # Processes of clio-draw keep what Python makes of the modules for the next one, and not in the repository.
 ENVIRONMENT = {name: value for name, value in os.environ.items() if name != "PYTHONDONTWRITEBYTECODE"}
 ENVIRONMENT["PYTHONPYCACHEPREFIX"] = str(room())
+
+
+@contextlib.contextmanager
+def served(*words: str | pathlib.Path, env: dict[str, str] | None = None,
+           cwd: pathlib.Path | None = None) -> Iterator["subprocess.Popen[str]"]:
+    """clio-draw, which is ended in the end; a test fails if it doesn't end by itself."""
+    with subprocess.Popen([sys.executable, "-B", TOOLS / "clio-draw", *words], stdout=subprocess.PIPE, text=True, env=env,
+                          cwd=cwd) as process:
+        try:
+            yield process
+            process.terminate()
+            process.wait(SECONDS)
+        finally:
+            process.kill()
+
+
+def first_line(process: "subprocess.Popen[str]") -> str:
+    """The line that a process prints first."""
+    assert process.stdout is not None
+    if not select.select([process.stdout], [], [], SECONDS)[0]:
+        raise TimeoutError(f"nothing is printed in {SECONDS} s")
+    return process.stdout.readline().strip()
+
+
+def until(is_so: Callable[[], object], what: str) -> None:
+    """Waits until something is so."""
+    end = time.monotonic() + SECONDS
+    while not is_so():
+        if time.monotonic() > end:
+            raise TimeoutError(f"after {SECONDS} s it isn't so that {what}")
+        time.sleep(.02)
 
 
 def copy_of(name: str) -> pathlib.Path:

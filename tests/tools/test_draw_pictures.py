@@ -18,6 +18,7 @@ FOLDER = os.environ.get("PICTURES", "")
 @unittest.skipUnless(FOLDER, "PICTURES names no folder")
 class Pictures(Page):
     def setUp(self) -> None:
+        super().setUp()
         self.browser.size(1040, 600)
         self.addCleanup(self.browser.size, 1400, 900)
 

@@ -6,8 +6,6 @@ import pathlib
 import signal
 import socket
 import stat
-import subprocess
-import sys
 import threading
 import time
 import unittest
@@ -15,7 +13,7 @@ import urllib.parse
 from typing import Any
 
 import draw_trial
-from trial import TOOLS, Trial
+from trial import PROGRAM, Trial
 
 from clio_tools.draw.answers import Answers
 from clio_tools.draw.folder import DRAWING, MAPPING, CannotRead, CannotSave, ChangedOnDisk, Folder, as_read
@@ -158,7 +156,7 @@ class Overtaken(Served):
     def test_a_run_that_is_overtaken_ends(self) -> None:
         slow = draw_trial.room() / "clio"
         slow.write_text(f'#!/bin/sh\nif [ "$1" = exchange ] && grep -q slow mapping.clio; then exec sleep 60; fi\n'
-                        f'exec {draw_trial.PROGRAM} "$@"\n')
+                        f'exec {PROGRAM} "$@"\n')
         slow.chmod(0o755)
         for helper in self.helpers:
             helper.environment["PATH"] = f"{slow.parent}{os.pathsep}{os.environ['PATH']}"
@@ -168,8 +166,7 @@ class Overtaken(Served):
             first = threading.Thread(target=lambda whole=whole, found=found: found.append(
                 self.live(text + "// slow\n", whole)))
             first.start()
-            while self.helpers[whole].doing != "live":
-                time.sleep(.01)
+            draw_trial.until(lambda whole=whole: self.helpers[whole].doing == "live", "the run has begun")
             time.sleep(.5)
             began = time.monotonic()
             self.assertEqual(self.live(text, whole)["tables"]["team"]["count"], 2)
@@ -236,10 +233,8 @@ class Folders(unittest.TestCase):
 class Command(Trial):
     def test_it_prints_an_address_and_ends(self) -> None:
         for name, status in (signal.SIGTERM, 143), (signal.SIGINT, 130):
-            with subprocess.Popen([sys.executable, TOOLS / "clio-draw", draw_trial.EXAMPLES / "teams"],
-                                  stdout=subprocess.PIPE, text=True) as process:
-                assert process.stdout is not None
-                self.assertRegex(process.stdout.readline(), r"\Ahttp://127\.0\.0\.1:[0-9]+/[\w-]{32}/\n\Z")
+            with draw_trial.served(draw_trial.EXAMPLES / "teams") as process:
+                self.assertRegex(draw_trial.first_line(process), r"\Ahttp://127\.0\.0\.1:[0-9]+/[\w-]{32}/\Z")
                 process.send_signal(name)
                 self.assertEqual(process.wait(20), status)
 
@@ -259,17 +254,13 @@ class Command(Trial):
         for name in "json.py", "signal.py", "clio_tools/__init__.py", "clio_tools/draw/worker.py":
             self.file(name, code)
         self.file("mapping.clio", (draw_trial.EXAMPLES / "teams" / "mapping.clio").read_bytes())
-        with subprocess.Popen([sys.executable, "-B", TOOLS / "clio-draw"], stdout=subprocess.PIPE, text=True,
-                              cwd=self.folder) as process:
-            assert process.stdout is not None
-            address = urllib.parse.urlsplit(process.stdout.readline().strip())
+        with draw_trial.served(cwd=self.folder) as process:
+            address = urllib.parse.urlsplit(draw_trial.first_line(process))
             connection = http.client.HTTPConnection(address.netloc, timeout=60)
             connection.request("POST", f"{address.path}api/arrange", json.dumps({"text": "mapping 1;"}),
                                {"Origin": f"http://{address.netloc}", "Content-Type": "application/json"})
             made = json.loads(connection.getresponse().read())
             connection.close()
-            process.terminate()
-            process.wait(20)
         self.assertNotIn("ended", made.get("error", ""))
         self.assertFalse((self.folder / "RAN").exists())
 
@@ -277,19 +268,14 @@ class Command(Trial):
         browser = self.file("browser", "#!/bin/sh\necho \"$@\" > \"$0.words\"\n")
         browser.chmod(0o755)
         environment = {**os.environ, "BROWSER": str(browser)}
-        with subprocess.Popen([sys.executable, TOOLS / "clio-draw", "--open", draw_trial.EXAMPLES / "teams"],
-                              stdout=subprocess.PIPE, text=True, env=environment) as process:
-            assert process.stdout is not None
-            address = process.stdout.readline().strip()
+        with draw_trial.served("--open", draw_trial.EXAMPLES / "teams", env=environment) as process:
+            address = draw_trial.first_line(process)
             words = pathlib.Path(f"{browser}.words")
-            while not words.exists() or not words.read_text():
-                time.sleep(.02)
+            draw_trial.until(lambda: words.exists() and words.read_text(), "the browser was called")
             page = pathlib.Path(words.read_text().strip().removeprefix("file://"))
             self.assertNotIn(address.split("/")[3], words.read_text())
             self.assertIn(address, page.read_text())
             self.assertEqual(stat.S_IMODE(page.stat().st_mode), 0o600)
-            process.terminate()
-            process.wait(20)
         self.assertFalse(page.exists())
 
 
