@@ -1,4 +1,5 @@
 """How the program must refuse, and where this reading gives up."""
+import re
 from contextlib import contextmanager
 
 TEXT_BYTES = 1048576
@@ -21,12 +22,20 @@ FROZEN_CELLS = 4000000
 CLASH, MAPPING, ROWS, LIMIT, READ_FAULT, WRITE_FAULT, QUERY, OTHER = 3, 4, 5, 6, 7, 8, 10, 11  # statuses
 
 
+HARMFUL = re.compile("[\x00-\x1f\x7f-\x9f\u061c\u200e\u200f\u202a-\u202e\u2066-\u2069]")
+
+
+def shown(message):
+    """A message as it is printed: control characters, and marks that turn the direction of writing, are escaped."""
+    return HARMFUL.sub(lambda found: "\\u{%x}" % ord(found[0]), message)
+
+
 class Refusal(Exception):
-    """The program must end with this status and this message."""
+    """The program must end with this status and print this message."""
 
     def __init__(self, status, message, name=None):
         super().__init__(message)
-        self.status, self.message, self.name = status, message, name
+        self.status, self.message, self.name = status, shown(message), name
 
 
 class Limit(Refusal):
