@@ -19,6 +19,7 @@ class Column:
     is_identity: bool = False  # the database gives it numbers
     is_computed: bool = False
     sequence: str | None = None  # what gives it numbers, as SQL has it
+    base: str = ""  # the type that its type is made of, if that is a domain, or else its type
 
 
 @dataclass(frozen=True)
@@ -29,6 +30,7 @@ class ForeignKey:
     columns: tuple[str, ...]
     parent: str
     referred: tuple[str, ...]
+    acts: bool = False  # whether rows of the child are deleted or altered with what they refer to
 
 
 @dataclass
@@ -41,6 +43,7 @@ class Table:
     columns: list[Column]
     keys: list[list[str]] = field(default_factory=list)
     has_places: bool = True  # whether a row has a place by which it can be named
+    is_shared: bool = False  # whether it shows rows of other tables too, which its keys don't bind
 
     def column(self, name: str) -> Column | None:
         """The column of this name."""

@@ -8,11 +8,12 @@ from __future__ import annotations
 
 from collections.abc import Callable
 
+from clio_tools.draft.names import shown
 from clio_tools.load.catalog import Column
 from clio_tools.load.comparing import DELETE, MARK, Comparison
 from clio_tools.load.database import identifier
 from clio_tools.load.plan import TablePlan
-from clio_tools.program import Refused
+from clio_tools.program import Refused, counted
 
 Tell = Callable[[str], None]
 
@@ -34,17 +35,17 @@ class Change:
             if not plan.is_empty and (counts.inserted or counts.changed):
                 self.part(plan)
             if counts.changed:
-                self.database.run(self.update(plan))
+                self.check_written(plan, self.database.run(self.update(plan)), counts.changed)
             if plan.is_direct:
                 self.fill_directly(plan)
             elif counts.inserted:
-                self.database.run(self.insert(plan))
+                self.check_written(plan, self.database.run(self.insert(plan)), counts.inserted)
         for plan in reversed(self.plan.tables):
             counts = self.comparison.counts[plan.number]
             if counts.deleted:
-                self.database.run(self.delete(plan))
+                self.delete_alone(plan)
             if counts.marked:
-                self.database.run(self.mark(plan))
+                self.check_written(plan, self.database.run(self.mark(plan)), counts.marked)
         for plan in self.plan.tables:
             self.keep_record(plan)
             self.database.set_sequences(plan)
@@ -55,22 +56,45 @@ class Change:
         counts.rows = counts.inserted = self.direct(plan)
         self.comparison.choose_key(plan)
 
+    def check_written(self, plan: TablePlan, rows: int, wanted: int) -> None:
+        """Refuses a load of which the database left something undone."""
+        if rows != wanted:
+            raise Refused(f"table {shown(plan.table.name)}: {counted(wanted, 'row')} had to be written or deleted, and "
+                          f"the database did so with {rows}: a trigger, a rule or a policy is in the way; nothing is "
+                          f"changed")
+
+    def delete_alone(self, plan: TablePlan) -> None:
+        """Takes away the rows that go, and refuses to take away, or alter, others by it."""
+        count = f"SELECT count(*) FROM {plan.table.sql}"
+        others = {key: " AND ".join(f"r.{identifier(name)} IS NOT NULL" for name in key.columns)
+                  for key in self.plan.foreign_keys if key.acts and key.parent == plan.table.sql != key.child}
+        queries = [count] + [f"SELECT count(*) FROM {key.child} AS r WHERE {test}" for key, test in others.items()]
+        before = [self.database.count(query) for query in queries]
+        self.database.run(self.delete(plan))
+        after = [self.database.count(query) for query in queries]
+        self.check_written(plan, before[0] - after[0], self.comparison.counts[plan.number].deleted)
+        for key, was, now in zip(others, before[1:], after[1:]):
+            if was != now:
+                raise Refused(f"rows of {key.child} refer to rows of {plan.table.name} that are to be deleted, and "
+                              f"would be deleted or altered with them: nothing is changed")
+
     def update(self, plan: TablePlan) -> str:
         """Writes the changed rows."""
-        key = set(plan.key or [])
+        key, changed = set(plan.key or []), self.comparison.counts[plan.number].columns
         sets = [f"{identifier(column.name)} = n.c{place}" for place, column in enumerate(plan.loaded)
-                if place not in key]
+                if place not in key or column.name in changed]  # a key may differ in capitals alone
         if plan.mark is not None:
             sets.append(f"{identifier(plan.mark.name)} = {self.database.unmarked(plan.mark)}")
-        return (f"UPDATE {plan.table.sql} AS t SET {', '.join(sets)} FROM {plan.work('diff')} AS n"
-                f" WHERE n.is_new = 0 AND {self.comparison.match(plan, 't', 'n')}")
+        return (f"UPDATE{self.database.or_abort} {plan.table.sql} AS t SET {', '.join(sets)}"
+                f" FROM {plan.work('diff')} AS n WHERE n.is_new = 0 AND {self.comparison.match(plan, 't', 'n')}")
 
     def insert(self, plan: TablePlan) -> str:
         """Writes the new rows."""
         names = ", ".join(identifier(column.name) for column in plan.loaded)
         cells = ", ".join(f"n.c{place}" for place in range(len(plan.columns)))
         source = f"{plan.work('new')} AS n" if plan.is_empty else f"{plan.work('diff')} AS n WHERE n.is_new = 1"
-        return f"INSERT INTO {plan.table.sql} ({names}){self.database.overriding} SELECT {cells} FROM {source}"
+        return (f"INSERT{self.database.or_abort} INTO {plan.table.sql} ({names}){self.database.overriding}"
+                f" SELECT {cells} FROM {source}")
 
     def delete(self, plan: TablePlan) -> str:
         """Takes away the rows that go."""
@@ -85,7 +109,7 @@ class Change:
         test = (f"t.{self.database.place} IN (SELECT e.place FROM {plan.work('extra')} AS e WHERE e.is_gone = 1)"
                 if plan.key is None else self.gone(plan))
         name, value = identifier(plan.mark.name), self.database.marked(plan.mark)
-        return f"UPDATE {plan.table.sql} AS t SET {name} = {value} WHERE {test}"
+        return f"UPDATE{self.database.or_abort} {plan.table.sql} AS t SET {name} = {value} WHERE {test}"
 
     def gone(self, plan: TablePlan) -> str:
         """The condition that a row of a table with a key goes."""
@@ -110,7 +134,8 @@ class Change:
             goes = self.changes(plan)
             if self.comparison.gone == DELETE:
                 goes = f"({goes} OR {self.gone(plan)})"
-            self.database.run(f"UPDATE {plan.table.sql} AS t SET {identifier(column.name)} = {value} WHERE EXISTS "
+            self.database.run(f"UPDATE{self.database.or_abort} {plan.table.sql} AS t SET "
+                              f"{identifier(column.name)} = {value} WHERE EXISTS "
                               f"({held}) AND {goes}")
 
     def changes(self, plan: TablePlan) -> str:

@@ -8,7 +8,9 @@ of the database, and writes what differs, in one transaction: rows that are miss
 values changed; what is equal is not written. A table is that of a set's name, a column likewise; names that are no
 words are taken as clio-draft notes them. Columns that the mapping doesn't know, or that no rule fills, keep their
 values, or get their defaults. If a text can't become a value of its column's type, or would be altered there, as by
-rounding, if a column must have a value and gets none, or is missing, all such cells are listed, and nothing is changed.
+rounding, or would be another one each time, as today, if a column must have a value and gets none, or is missing, all
+such cells are listed, and nothing is changed. Nor is anything if a trigger, a rule or a policy leaves out a row, or if
+a key leads to several rows.
 
 Rows are matched by a key that has a value in each row of the target: the table's primary key if the mapping fills it,
 else a key of the mapping, else another unique key. A table without one is matched by whole rows, and equal ones are

@@ -68,6 +68,8 @@ class Comparison:
         run = self.database.run
         if plan.key is None:
             run(self.numbered_rows(plan))
+        else:
+            self.check_pairs(plan, plan.key)
         run(self.diff(plan))
         counts.inserted = self.database.count(f"SELECT count(*) FROM {plan.work('diff')} WHERE is_new = 1")
         counts.changed = self.database.count(f"SELECT count(*) FROM {plan.work('diff')} WHERE is_new = 0")
@@ -78,6 +80,37 @@ class Comparison:
             run(self.extra(plan))
         else:
             run(f"{self.extra(plan)} LIMIT 0")
+        self.check_own(plan)
+
+    def check_pairs(self, plan: TablePlan, key: list[int]) -> None:
+        """Refuses rows of the target that are one row of the table, as those with 1 and 01 in a column of numbers, and
+        rows of the table that are one of the target."""
+        columns = [plan.loaded[place] for place in key]
+        is_unique = plan.key_names() in plan.table.keys
+        if is_unique and all(place in plan.numbered or self.database.is_exact(plan, column)
+                             for place, column in zip(key, columns)):
+            return
+        cells = ", ".join(f"t.{identifier(column.name)}" for column in columns)
+        found = next(iter(self.database.rows(f"SELECT {cells} FROM {plan.work('new')} AS n JOIN {plan.table.sql} AS t"
+                                             f" ON {self.match(plan, 't', 'n')} GROUP BY {cells} HAVING count(*) > 1"
+                                             f" LIMIT 1")), None)
+        if found:
+            which = f"the key ({', '.join(plan.key_names())}) {', '.join(shown(str(cell)) for cell in found)}"
+            raise Refused(f"{which} belongs to several rows of out/{plan.set.name}.csv or of table"
+                          f" {shown(plan.table.name)} in the database: name another key by --key, or change the"
+                          f" rows; nothing is changed")
+
+    def check_own(self, plan: TablePlan) -> None:
+        """Refuses to delete or mark one of several rows that have the key of a row which a load wrote: it isn't known
+        which of them that is."""
+        if plan.key is None or self.gone == KEEP or plan.key_names() in plan.table.keys and not plan.table.is_shared:
+            return
+        found = self.database.value(f"SELECT m FROM {plan.work('extra')} WHERE is_own = 1 GROUP BY m"
+                                    " HAVING count(*) > 1 LIMIT 1")
+        if found is not None:
+            raise Refused(f"table {shown(plan.table.name)} has several rows with the key"
+                          f" ({', '.join(plan.key_names())}) {shown(found)}, and a load wrote one of them: name"
+                          " another key by --key, or change the rows; nothing is changed")
 
     def has_extra(self, plan: TablePlan) -> bool:
         """Whether the table has rows that the target lacks."""

@@ -44,6 +44,7 @@ class Database(abc.ABC):
     place: str  # by which a row is named
     now: str
     overriding = ""  # so that a column that the database numbers takes a given number
+    or_abort = ""  # so that a row that isn't unique is refused, whatever its table's clause for that says
 
     @abc.abstractmethod
     def catalog(self) -> Catalog:
@@ -106,6 +107,10 @@ class Database(abc.ABC):
     @abc.abstractmethod
     def compared(self, cell: str, column: Column) -> str:
         """A cell of a column such that values which differ are told apart."""
+
+    @abc.abstractmethod
+    def is_exact(self, plan: TablePlan, column: Column) -> bool:
+        """Whether texts that differ are different values of a column, so that no two rows of a file are one there."""
 
     @abc.abstractmethod
     def placeholder(self, column: Column, table: str) -> str | None:

@@ -80,7 +80,10 @@ class Load:
 
     def fill_directly(self, plan: TablePlan) -> int:
         """Reads a file into its table, which has no rows."""
-        return self.checked(plan, self.database.fill_directly(plan, self.space.path(plan.set), self.options))
+        rows = self.database.fill_directly(plan, self.space.path(plan.set), self.options)
+        if rows != self.space.counts.get(f"{plan.set.name}.csv", rows):
+            raise NotDirect  # the file was cut, or a trigger left rows out: it is said which
+        return self.checked(plan, rows)
 
     def checked(self, plan: TablePlan, rows: int) -> int:
         """A number of rows, as it must be by the summary."""

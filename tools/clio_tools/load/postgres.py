@@ -2,6 +2,7 @@
 from __future__ import annotations
 
 import contextlib
+import json
 import pathlib
 import re
 from collections.abc import Iterable, Iterator
@@ -16,7 +17,8 @@ from clio_tools.load.postgres_values import altered, plain_pieces, value_of, wit
 from clio_tools.load.plan import Plan, TablePlan
 from clio_tools.program import Refused
 
-SETTINGS = {**postgres.SETTINGS, "work_mem": "64MB", "client_min_messages": "warning"}
+SETTINGS = {**postgres.SETTINGS, "work_mem": "64MB", "client_min_messages": "warning",
+            "standard_conforming_strings": "on"}
 SCHEMA = "clio_load"  # of the tool's own tables
 KINDS = {"bool": BOOLEAN, "int2": INTEGER, "int4": INTEGER, "int8": INTEGER, "numeric": NUMBER, "float4": NUMBER,
          "float8": NUMBER,
@@ -30,25 +32,36 @@ COLUMNS = """SELECT c.relname, a.attname, pg_catalog.format_type(a.atttypid, a.a
  CASE WHEN a.attcollation <> t.typcollation THEN (SELECT pg_catalog.quote_ident(s.nspname) || '.' ||
  pg_catalog.quote_ident(o.collname)
   FROM pg_catalog.pg_collation o JOIN pg_catalog.pg_namespace s ON s.oid = o.collnamespace WHERE o.oid = a.attcollation)
-  END
+  END, CASE t.typtype WHEN 'd' THEN pg_catalog.format_type(t.typbasetype, t.typtypmod) ELSE
+ pg_catalog.format_type(a.atttypid, a.atttypmod) END
  FROM pg_catalog.pg_attribute a JOIN pg_catalog.pg_class c ON c.oid = a.attrelid JOIN pg_catalog.pg_namespace n ON n.oid
  = c.relnamespace
  JOIN pg_catalog.pg_type t ON t.oid = a.atttypid LEFT JOIN pg_catalog.pg_type b ON b.oid = t.typbasetype
  WHERE n.nspname = %s AND a.attnum > 0 AND NOT a.attisdropped AND c.relkind IN ('r', 'p', 'f') ORDER BY c.relname,
  a.attnum"""
+SHARED = """SELECT c.relname FROM pg_catalog.pg_class c JOIN pg_catalog.pg_namespace n ON n.oid = c.relnamespace
+ WHERE n.nspname = %s AND c.relkind = 'r' AND EXISTS (SELECT 1 FROM pg_catalog.pg_inherits i WHERE i.inhparent = c.oid)
+ """
 PLAIN = """SELECT c.relname FROM pg_catalog.pg_class c JOIN pg_catalog.pg_namespace n ON n.oid = c.relnamespace
  WHERE n.nspname = %s AND c.relkind = 'r' AND NOT c.relhassubclass"""  # whose rows have places of their own
-NAMES = """(SELECT pg_catalog.string_agg(a.attname, E'\\x01' ORDER BY k.place)
+NAMES = """(SELECT pg_catalog.json_agg(a.attname ORDER BY k.place)::text
  FROM pg_catalog.unnest({0}) WITH ORDINALITY AS k (number, place)
  JOIN pg_catalog.pg_attribute a ON a.attrelid = {1} AND a.attnum = k.number)"""
 FOREIGN_KEYS = f"""SELECT s.nspname, c.relname, {NAMES.format('r.conkey', 'r.conrelid')}, p.relname,
- {NAMES.format('r.confkey', 'r.confrelid')}
+ {NAMES.format('r.confkey', 'r.confrelid')}, r.confdeltype IN ('c', 'n', 'd')
  FROM pg_catalog.pg_constraint r JOIN pg_catalog.pg_class c ON c.oid = r.conrelid JOIN pg_catalog.pg_namespace s ON
  s.oid = c.relnamespace
  JOIN pg_catalog.pg_class p ON p.oid = r.confrelid JOIN pg_catalog.pg_namespace n ON n.oid = p.relnamespace
  WHERE r.contype = 'f' AND r.conparentid = 0 AND n.nspname = %s ORDER BY 1, 2, r.conname"""
-TRIAL = """CREATE OR REPLACE FUNCTION pg_temp.clio_fits(cell text) RETURNS boolean LANGUAGE plpgsql AS $clio$
- DECLARE made {0}; BEGIN made := cell; RETURN true; EXCEPTION WHEN others THEN RETURN false; END $clio$"""
+RECORD = """SELECT c.relkind = 'r' AND NOT c.relhasrules AND NOT c.relhastriggers,
+ (SELECT pg_catalog.string_agg(a.attname, ', ' ORDER BY a.attnum) FROM pg_catalog.pg_attribute a
+  WHERE a.attrelid = c.oid AND a.attnum > 0 AND NOT a.attisdropped)
+ FROM pg_catalog.pg_class c JOIN pg_catalog.pg_namespace n ON n.oid = c.relnamespace
+ WHERE n.nspname = %s AND c.relname = %s"""
+RECORD_COLUMNS = "load, table_name, key_columns, row_key"
+TRIAL = "DECLARE made {0}; BEGIN made := cell; RETURN true; EXCEPTION WHEN others THEN RETURN false; END"
+TRY = "CREATE OR REPLACE FUNCTION pg_temp.clio_fits(cell text) RETURNS boolean LANGUAGE plpgsql AS {0}"
+EXACT = re.compile(r"text|character varying(\(\d+\))?")  # types of which texts that differ are other values
 NO_RIGHT = "42501"
 LOCKED = "55P03", "40P01"
 
@@ -77,13 +90,13 @@ class Postgres(Database):
         for table, *rest in self.session.rows(COLUMNS, self.schema):
             if table in words:
                 found.setdefault(str(table), []).append(column_of(words[str(table)], rest))
-        plain = set(self.session.column(PLAIN, self.schema))
+        plain, shared = (set(self.session.column(query, self.schema)) for query in (PLAIN, SHARED))
         tables = [Table(table.name, table.word, self.sql(self.schema, table.name), found[table.name],
-                        [list(key) for key in table.keys], table.name in plain)
+                        [list(key) for key in table.keys], table.name in plain, table.name in shared)
                   for table in side.tables if table.name in found]
         keys = [ForeignKey(self.sql(str(schema), str(child)), listed(columns), self.sql(self.schema, str(parent)),
-                           listed(referred))
-                for schema, child, columns, parent, referred in self.session.rows(FOREIGN_KEYS, self.schema)]
+                           listed(referred), acts == "t")
+                for schema, child, columns, parent, referred, acts in self.session.rows(FOREIGN_KEYS, self.schema)]
         return Catalog(tables, keys)
 
     def sql(self, schema: str, name: str) -> str:
@@ -205,7 +218,7 @@ class Postgres(Database):
         for number, column in enumerate(plan.loaded):
             place = plan.columns[number][0]
             cell = self.cell(plan, number, options)
-            self.run(TRIAL.format(column.type))
+            self.run(TRY.format(literal(TRIAL.format(column.type))))  # a type's name may be a text of any kind
             tests = [(f"NOT pg_temp.clio_fits({cell})", column.type)]
             if not column.may_be_null:
                 tests.append((f"({cell}) IS NULL", "NOT NULL"))
@@ -220,10 +233,18 @@ class Postgres(Database):
 
     def key_text(self, cells: list[str]) -> str:
         texts = [f"({cell})::text" for cell in cells]
-        return texts[0] if len(texts) == 1 else f"ARRAY[{', '.join(texts)}]::text"
+        if len(texts) == 1:  # the text itself, but NULL as it is in a list, and as a list what could be taken for that
+            return f"CASE WHEN {texts[0]} IS NULL OR left({texts[0]}, 1) = '{{' THEN ARRAY[{texts[0]}]::text" \
+                   f" ELSE {texts[0]} END"
+        return f"ARRAY[{', '.join(texts)}]::text"
 
     def compared(self, cell: str, column: Column) -> str:
+        if column.kind == TEXT and EXACT.fullmatch(column.type) is None:  # as one that takes capitals for small letters
+            return f'{cell}::text COLLATE pg_catalog."C"'
         return f"{cell}::text" if column.kind == OTHER else cell
+
+    def is_exact(self, plan: TablePlan, column: Column) -> bool:
+        return EXACT.fullmatch(column.type) is not None
 
     def placeholder(self, column: Column, table: str) -> str | None:
         number = "(((t.ctid::text::point)[0])::bigint * 300 + ((t.ctid::text::point)[1])::bigint + 1)"
@@ -253,7 +274,10 @@ class Postgres(Database):
         return self.sql(self.schema, name)
 
     def has_record(self, name: str) -> str | None:
-        return self.value(f"SELECT pg_catalog.to_regclass({literal(f'{SCHEMA}.{name}')})")
+        found = self.session.rows(RECORD, SCHEMA, name)
+        if found and found[0] != ("t", RECORD_COLUMNS):
+            raise Refused(f"{SCHEMA}.{name} is not the record of clio-load, which is kept under that name: rename it")
+        return f"{SCHEMA}.{name}" if found else None
 
     def set_sequences(self, plan: TablePlan) -> None:
         for column in plan.loaded:
@@ -270,14 +294,14 @@ class Postgres(Database):
 
 def column_of(words: dict[str, str], cells: list[str | None]) -> Column:
     """A column by its row of the catalog."""
-    name, declared, base, category, filled, has_default, is_identity, is_computed, sequence, collation = cells
-    kind = KINDS.get(str(base), TEXT if category == "S" else OTHER)
+    name, declared, plain, category, filled, has_default, is_identity, is_computed, sequence, collation, base = cells
+    kind = KINDS.get(str(plain), TEXT if category == "S" else OTHER)
     return Column(str(name), words[str(name)], str(declared) + (f" COLLATE {collation}" if collation else ""), kind,
                   filled == "f",
                   has_default == "t" or is_identity == "t", is_identity == "t" or sequence is not None,
-                  is_computed == "t", sequence)
+                  is_computed == "t", sequence, str(base))
 
 
 def listed(names: str | None) -> tuple[str, ...]:
     """The names of a list."""
-    return tuple((names or "").split("\x01"))
+    return tuple(json.loads(names or "[]"))

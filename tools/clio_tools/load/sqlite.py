@@ -4,30 +4,20 @@ from __future__ import annotations
 import contextlib
 import os
 import pathlib
-import re
 import sqlite3
 import urllib.parse
-from collections.abc import Callable, Iterable, Iterator
+from collections.abc import Iterable, Iterator
 
-from clio_tools.csv import read_table
 from clio_tools.draft import model, sqlite
-from clio_tools.load.catalog import (BOOLEAN, DATE, INTEGER, NUMBER, OTHER, TEXT, TIME, Catalog, Column, ForeignKey,
-                                     Table)
+from clio_tools.load.catalog import DATE, INTEGER, NUMBER, OTHER, TEXT, TIME, Catalog, Column, ForeignKey, Table
 from clio_tools.load.database import Cells, Database, DoesNotFit, Misfit, Options, identifier, literal
 from clio_tools.load.plan import Plan, TablePlan
+from clio_tools.load.sqlite_values import FITS, affinity, checked, kind_of, maker, text_of
 from clio_tools.program import Refused, stop_by_exception
 
 CACHE = 65536  # KiB of the file, and of work tables, that are held in memory
 OWN = "clio_load_"  # how the tool's own tables begin
-WORDS = {"t": 1, "true": 1, "y": 1, "yes": 1, "on": 1, "f": 0, "false": 0, "n": 0, "no": 0, "off": 0}
-DECLARED = [(INTEGER, "INT"), (TEXT, "CHAR|CLOB|TEXT"), (OTHER, "BLOB|^$|ANY|JSON|UUID"), (NUMBER, "REAL|FLOA|DOUB"),
-            (BOOLEAN, "BOOL"), (TIME, "TIME"), (DATE, "DATE")]  # kinds by what is in the name of a type, the first one
-FITS = {INTEGER: "typeof({0}) = 'integer'", NUMBER: "typeof({0}) IN ('integer', 'real')",
-        BOOLEAN: "typeof({0}) = 'integer'",
-        DATE: "date({0}) IS NOT NULL", TIME: "coalesce(date(substr({0}, 1, 10)), time(substr({0}, 1, 5))) IS NOT NULL"}
-
-Value = str | int | None
-Made = Callable[[str], Value]
+RECORD_COLUMNS = ["load", "table_name", "key_columns", "row_key"]
 
 
 class Sqlite(Database):
@@ -36,6 +26,7 @@ class Sqlite(Database):
     differs = "IS NOT"
     place = "_rowid_"
     now = "CURRENT_TIMESTAMP"
+    or_abort = " OR ABORT"
 
     def __init__(self, path: str, wait: int) -> None:
         """Opens a file; `wait` are the seconds in which somebody else's lock may end."""
@@ -85,16 +76,19 @@ class Sqlite(Database):
                   if one[0] == "main"]
         return Table(found.name, found.word, f"main.{identifier(found.name)}", columns,
                      [list(key) for key in found.keys],
-                     not any(one[4] for one in ranked))
+                     not any(one[4] for one in ranked) and self.place not in [one.name.lower() for one in columns])
 
     def foreign_keys(self, table: Table, named: dict[str, Table]) -> list[ForeignKey]:
         """The foreign keys of a table."""
         links: dict[int, list[tuple[str, str, str | None]]] = {}
+        acting = set()
         query = f"PRAGMA main.foreign_key_list({identifier(table.name)})"
-        for number, _, other, column, referred, *_ in self.base.execute(query):
+        for number, _, other, column, referred, _, action, _ in self.base.execute(query):
             links.setdefault(number, []).append((other, column, referred))
+            if action not in ("NO ACTION", "RESTRICT"):
+                acting.add(number)
         found = []
-        for parts in links.values():
+        for number, parts in links.items():
             parent = named.get(parts[0][0].lower())
             if parent is None:
                 continue
@@ -102,7 +96,7 @@ class Sqlite(Database):
             names = parent.keys[0] if None in referred and parent.keys else [own(parent, str(name))
                                                                              for name in referred]
             found.append(ForeignKey(table.sql, tuple(own(table, column) for _, column, _ in parts), parent.sql,
-                                    tuple(names)))
+                                    tuple(names), number in acting))
         return found
 
     def run(self, sql: str) -> int:
@@ -155,7 +149,7 @@ class Sqlite(Database):
         rows = ([make(row[place]) for place, make in makers] for row in checked(path, plan))
         with self.told():
             marks = ", ".join("?" * len(makers))
-            return max(self.base.executemany(f"INSERT INTO {into} VALUES ({marks})", rows).rowcount, 0)
+            return max(self.base.executemany(f"INSERT{self.or_abort} INTO {into} VALUES ({marks})", rows).rowcount, 0)
 
     def can_fill_directly(self, plan: TablePlan, path: pathlib.Path, options: Options) -> bool:
         return True
@@ -208,6 +202,10 @@ class Sqlite(Database):
     def compared(self, cell: str, column: Column) -> str:
         return f"{cell} COLLATE BINARY" if column.kind in (TEXT, OTHER) else cell
 
+    def is_exact(self, plan: TablePlan, column: Column) -> bool:
+        made = self.value(f"SELECT sql FROM main.sqlite_master WHERE name = {literal(plan.table.name)}") or ""
+        return column.kind == TEXT and "collate" not in made.lower()
+
     def placeholder(self, column: Column, table: str) -> str | None:
         if column.kind in (INTEGER, NUMBER):
             name = identifier(column.name)
@@ -224,9 +222,13 @@ class Sqlite(Database):
 
     def has_record(self, name: str) -> str | None:
         with self.told():
-            found = self.base.execute("SELECT 1 FROM main.sqlite_master WHERE type = 'table' AND name = ?",
-                                      (OWN + name,)).fetchone()
-        return f"main.{identifier(OWN + name)}" if found else None
+            columns = [one[1] for one in self.base.execute(f"PRAGMA main.table_info({identifier(OWN + name)})")]
+            is_other = self.base.execute("SELECT 1 FROM main.sqlite_master WHERE type IN ('view', 'trigger')"
+                                         " AND tbl_name = ? COLLATE NOCASE", (OWN + name,)).fetchone()
+        if columns and (is_other or columns != RECORD_COLUMNS):
+            raise Refused(f"{self.path}: {OWN}{name} is not the record of clio-load, which is kept under that name: "
+                          f"rename it")
+        return f"main.{identifier(OWN + name)}" if columns else None
 
     def set_sequences(self, plan: TablePlan) -> None:
         """SQLite does it by itself."""
@@ -238,56 +240,3 @@ class Sqlite(Database):
 def own(table: Table, name: str) -> str:
     """A column's name as its table has it; SQLite doesn't tell capitals."""
     return next((column.name for column in table.columns if column.name.lower() == name.lower()), name)
-
-
-def kind_of(declared: str) -> str:
-    """What texts become in a column of a declared type, by SQLite's own rules and by the names of others' types."""
-    name = declared.upper()
-    for kind, pattern in DECLARED:
-        if re.search(pattern, name):
-            return kind
-    return NUMBER if re.search("NUM|DEC|MONEY", name) else OTHER
-
-
-def affinity(column: Column) -> str:
-    """A type such that a work table keeps values as the column does."""
-    name = column.type.upper()
-    if "INT" in name:
-        return "INTEGER"
-    if re.search("CHAR|CLOB|TEXT", name):
-        return "TEXT"
-    if "BLOB" in name or name == "ANY":
-        return "BLOB"
-    return "REAL" if re.search("REAL|FLOA|DOUB", name) else "NUMERIC"
-
-
-def maker(column: Column, options: Options) -> Made:
-    """What makes a value of a cell: nulls and the text for NULL are NULL, and so is the empty text but in a text."""
-    opened = {options.null_text} if column.kind in (TEXT, OTHER) else {options.null_text, ""}
-
-    def text(cell: str) -> Value:
-        if cell[:1] == "?":
-            if cell[:2] != "??":
-                return None
-            cell = cell[1:]
-        return None if cell in opened else cell
-
-    def boolean(cell: str) -> Value:
-        found = text(cell)
-        return WORDS.get(found.lower(), found) if isinstance(found, str) else None
-
-    return boolean if column.kind == BOOLEAN else text
-
-
-def checked(path: pathlib.Path, plan: TablePlan) -> Iterator[list[str]]:
-    """The rows of a file; a text with a byte 0 is refused, as SQLite's functions end there."""
-    for number, row in enumerate(read_table(path, plan.set.columns), 1):
-        if "\0" in "".join(row):
-            raise Refused(f"out/{path.name}: record {number}: a text has a byte 0, and a database would cut or refuse "
-                          f"it")
-        yield row
-
-
-def text_of(cell: object) -> str | None:
-    """A value as a text."""
-    return None if cell is None else cell if isinstance(cell, str) else repr(cell)

@@ -59,10 +59,13 @@ class Workspace:
 
     def exchange(self, core: bool) -> None:
         """Runs the exchange; what clio refuses ends the load as it ends clio."""
-        done = subprocess.run([program(), "exchange", *["--core"] * core], cwd=self.folder, stdin=subprocess.DEVNULL,
-                              stdout=subprocess.DEVNULL, stderr=subprocess.PIPE, check=False)
+        summary = self.folder / "summary"
+        with summary.open("wb") as file:
+            done = subprocess.run([program(), "exchange", *["--core"] * core], cwd=self.folder,
+                                  stdin=subprocess.DEVNULL, stdout=file, stderr=subprocess.PIPE, check=False)
         if done.returncode:
             pass_on(done.stderr, done.returncode)
+        self.counts = read_summary(str(summary))
 
     def take(self, out: pathlib.Path, summary: str) -> None:
         """Takes the files of an exchange that was run before, if they are whole and of these sources."""
