@@ -132,6 +132,22 @@ class OnSqlite(Hostile):
         self.refused("clio-load", *self.words, "--delete", why="would be deleted or altered with them")
         self.assertEqual(self.rows("SELECT code FROM child"), [("a",)])
 
+    def test_a_number_that_was_not_used(self) -> None:
+        """A load that fails at its end has numbers of the database's own that a row of somebody else may get then."""
+        self.run_sql("CREATE TABLE t (id INTEGER PRIMARY KEY, label TEXT UNIQUE, boss TEXT REFERENCES other"
+                     " DEFERRABLE INITIALLY DEFERRED); CREATE TABLE other (x TEXT PRIMARY KEY)")
+        self.file("mapping.clio", "mapping 1; source { set s { label, boss; } } target { set t { id, label, boss; key "
+                                  "(id); key (label); } } rule s(x, y) -> t(z, x, y);")
+        self.file("s.csv", "label,boss\ntoys,nobody\n")
+        words = (*self.words, "--ids", "ids.db", "--identity")
+        self.refused("clio-load", *words, why="would refer to no row")
+        self.run_sql("INSERT INTO other VALUES ('nobody'); INSERT INTO t VALUES (1, 'mine', NULL)")
+        self.refused("clio-load", *words, why="may be another thing")
+        self.assertEqual(self.rows(), [(1, "mine", None)])
+        self.run_sql("UPDATE t SET label = 'toys'")  # the same thing by another key
+        self.printed("clio-load", *words)
+        self.assertEqual(self.rows(), [(1, "toys", "nobody")])
+
     def test_the_name_of_the_record(self) -> None:
         """A table or view of the user's under the name of the record is not written to."""
         for made in "TABLE clio_load_written (a)", "VIEW clio_load_written AS SELECT 1 AS a":
@@ -187,11 +203,11 @@ class OnPostgres(Hostile):
         """What a type would alter without a word is refused: at the first load, and at the next one, which goes another
         way."""
         self.session.run("CREATE DOMAIN price AS numeric(5,2); CREATE DOMAIN code AS varchar(3)")
-        for kind, right, wrong in [("price", "1.20", "1.239"), ("code", "abc", "abc "), ("bit(3)", "101", "10101"),
-                                   ("bit varying(3)", "101", "10101"), ("timestamp(0)", "2020-01-01 10:00:00", "2020-01-"
-                                   "01 10:00:00.7"), ("time(0)", "10:00:00", "10:00:00.7"), ("date", "2020-01-01",
-                                   "today"), ("timestamptz", "2020-01-01 10:00:00+00", "now"), ("interval(0)", "1 day",
-                                   "1.7 s"), ("time", "10:00:00", "NOW")]:
+        for kind, right, wrong in [
+                ("price", "1.20", "1.239"), ("code", "abc", "abc "), ("bit(3)", "101", "10101"),
+                ("bit varying(3)", "101", "10101"), ("timestamp(0)", "2020-01-01 10:00:00", "2020-01-01 10:00:00.7"),
+                ("time(0)", "10:00:00", "10:00:00.7"), ("date", "2020-01-01", "today"), ("interval(0)", "1 s", "1.7 s"),
+                ("timestamptz", "2020-01-01 10:00:00+00", "now"), ("time", "10:00:00", "NOW")]:
             with self.subTest(kind=kind):
                 self.session.run(f"DROP TABLE IF EXISTS t; CREATE TABLE t (id int PRIMARY KEY, x {kind})")
                 before: Rows = []

@@ -240,10 +240,10 @@ class Comparison:
             return f"{row}.m || ' ' || {row}.occ"
         return self.database.key_text([f"{row}.c{place}" for place in plan.key])
 
-    def changed_of_others(self, plan: TablePlan) -> str:
-        """A query for the keys of the changed rows that no load wrote."""
+    def changed_of_others(self, plan: TablePlan, test: str = "1 = 1") -> str:
+        """A query for the keys of the changed rows that no load wrote, and that satisfy a test."""
         return (f"SELECT d.m FROM (SELECT {self.key_text_of_new(plan, 'n')} AS m FROM {plan.work('diff')} AS n WHERE "
-                f"n.is_new = 0) AS d"
+                f"n.is_new = 0 AND {test}) AS d"
                 f" LEFT JOIN ({self.record.rows_of(plan, '=')}) AS w ON w.row_key = d.m WHERE w.row_key IS NULL")
 
     def find_referred(self) -> None:

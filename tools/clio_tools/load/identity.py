@@ -78,6 +78,20 @@ class Identity:
                 f" LEFT JOIN {domain.work} AS v ON v.value = t.{name}"
                 f" WHERE g.number IS NULL AND v.value IS NULL GROUP BY n.c{domain.place}")
 
+    def doubtful(self, plan: TablePlan) -> str | None:
+        """A condition on changed rows `n` that are matched by a value of the crosswalk's: nothing else says that the
+        row which has it is the same thing. Nothing for a table that isn't matched so."""
+        domain = next((one for one in self.domains if one.home is plan and one.place in (plan.key or [])), None)
+        if domain is None:
+            return None
+        name = identifier(plan.loaded[domain.place].name)
+        known = f"n.c{domain.place} IN (SELECT g.value FROM {domain.work} AS g WHERE g.is_new = 0)"
+        same = [" AND ".join(f"t.{identifier(plan.loaded[place].name)} = n.c{place}" for place in key)
+                for key in plan.keys if domain.place not in key]
+        test = " OR ".join(f"({one})" for one in same) or "1 = 0"
+        return (f"{known} AND NOT EXISTS (SELECT 1 FROM {plan.table.sql} AS t WHERE t.{name} = n.c{domain.place}"
+                f" AND ({test}))")
+
     def next_values(self, domain: Domain, is_dry: bool) -> str:
         """Gives new values to the things that have none."""
         home = domain.home

@@ -172,10 +172,11 @@ class Load:
         """Refuses to change rows that no load wrote, and that are matched by a number of the crosswalk alone."""
         found = 0
         for plan in self.plan.tables:
-            if self.given.adopt or not comparison.counts[plan.number].changed or not set(plan.key
-                                                                                         or []) & set(plan.numbered):
+            test = "1 = 1" if set(plan.key or []) & set(plan.numbered) else \
+                self.identity.doubtful(plan) if self.identity else None
+            if self.given.adopt or not comparison.counts[plan.number].changed or test is None:
                 continue
-            keys = comparison.changed_of_others(plan)
+            keys = comparison.changed_of_others(plan, test)
             found += self.database.count(f"SELECT count(*) FROM ({keys}) AS k")
             for row in self.database.rows(f"{keys} LIMIT {SAMPLES}"):
                 remark("clio-load", f"{shown_name(plan.table.name)} {shown(str(row[0]))} would be changed, and no load "
