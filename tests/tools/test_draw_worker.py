@@ -135,6 +135,27 @@ class Live(unittest.TestCase):
             for step in self.cured(folder, edited(text, cure["action"])[0], 3):
                 self.assertIsNone(step)
 
+    def test_what_a_key_needs_is_offered(self) -> None:
+        """A key of which a ref is a part: of the set itself, and of one to which a ref leads."""
+        folder = draw_trial.copy_of("teams")
+        head = ("mapping 1;\nsource { set shop { code; }\n"
+                "  set item { what, sold, made; ref (sold) -> shop (code); ref (made) -> shop (code); }\n"
+                "  set part { of, name; ref (of) -> item (what); } }\n"
+                "target { set place { pid, code; key (pid); key (code); }\n"
+                "  set thing { tid, place, what, note; key (tid); key (place, what); ref (place) -> place (pid); }\n"
+                "  set piece { name, thing; ref (thing) -> thing (tid); } }\n"
+                "rows place from shop;\nline shop.code -> place.code;\nrows thing from item;\n"
+                "line item.what -> thing.what;\nline shop -> thing.place by sold;\n")
+        note = "line shop.code -> thing.note by made;\n"
+        cures = Asked(folder).live(head + note)["fault"]["cures"]
+        self.assertEqual([one["title"] for one in cures],
+                         ["rows thing from item with sold", "rows thing from item with made"])
+        self.assertIsNone(Asked(folder).live(edited(head + note, cures[0]["action"])[0])["fault"])
+        linked = head + "rows piece from part with of;\nline part.name -> piece.name;\n"
+        cures = Asked(folder).live(linked)["fault"]["cures"]
+        self.assertEqual([one["title"] for one in cures], ["rows thing from item with sold"])
+        self.assertNotIn("rows thing from item;", edited(linked, cures[0]["action"])[0])
+
     def cured(self, folder: pathlib.Path, text: str, steps: int) -> list[object]:
         """The faults that are left when each fault was answered by each of its cures, so many times at most."""
         fault = Asked(folder).live(text)["fault"]

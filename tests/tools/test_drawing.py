@@ -168,6 +168,24 @@ class Refusals(Trial):
         self.file("drawing.clio", text + "line shop -> thing.place by sold;\n")
         self.printed("clio-rules")
 
+    def test_a_key_that_a_ref_may_leave_open(self) -> None:
+        """The set has a key, and what has to be there for it is said."""
+        text = ("mapping 2;\nsource { set shop { code; }\n"
+                "  set item { what, sold, made; ref (sold) -> shop (code); ref (made) -> shop (code); } }\n"
+                "target { set place { pid, code; key (pid); key (code); }\n"
+                "  set thing { place, what, note; key (place, what); ref (place) -> place (pid); } }\n"
+                "rows place from shop;\nline shop.code -> place.code;\nrows thing from item;\n"
+                "line item.what -> thing.what;\nline shop -> thing.place by sold;\n"
+                "line shop.code -> thing.note by made;\n")
+        self.file("drawing.clio", text)
+        self.refused("clio-rules", why="thing.note is not there for each item, and thing has no key that lines give, "
+                     "by which the row with it and the row without it are one: write `with sold`, which its key needs, or "
+                     "write `with made` if rows without one are not meant, or `lookup shop;`")
+        self.file("drawing.clio", text.replace("from item;", "from item with sold;"))
+        self.assertEqual(self.tool("clio-rules")[2], "")
+        self.file("drawing.clio", text.replace("line shop.code -> thing.note by made;\n", ""))
+        self.refused("clio-rules", why="are one: write `with sold`, which its key needs")
+
     def test_a_ref_that_may_be_missing_is_remarked_with_both_cures(self) -> None:
         text = ("mapping 2;\nsource { set shop { code; } set item { what, sold; ref (sold) -> shop (code); } }\n"
                 "target { set place { pid, code; key (pid); key (code); }\n"

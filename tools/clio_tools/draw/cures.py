@@ -13,6 +13,9 @@ WAY = re.compile(r"by ((?:\([\w, ]+\)|\w+)(?:\.(?:\([\w, ]+\)|\w+))*)")
 LINE = re.compile(r"line (\w+) -> (\w+)\.(\w+) by ([^;]+);")
 ROWS = re.compile(r"rows (\w+) from (\w+);")
 KEYLESS = re.compile(r"give set (\w+) a key(?:, or write `with ([^`]+)`)?")
+KEY_NEEDS = re.compile(r"and (\w+) has no key that .*: write `with ([^`]+)`, which its key needs"
+                       r"(?:, or write `with ([^`]+)`)?")
+SEEDS = re.compile(r"write rows (\w+) from \w+ with ([^;]+);")
 REFERRED = re.compile(r"(\w+)\.(\w+) leads to .*: give set (\w+) key \(([^)]*)\);")
 REF = re.compile(r"ref \(([^)]*)\) -> (\w+) \(([^)]*)\) of (\w+)")
 MOST = 8  # cures that are offered of one fault
@@ -32,6 +35,8 @@ def of_fault(fault: Fault, outline: Outline) -> list[Data]:
             cures.append(_cure(f"rows {target} from {name}", {"do": "add_rows", "target": target, "source": name}))
     for target, way in KEYLESS.findall(fault.said):
         cures += [*_keys(target, outline), *_with(target, way, fault, outline)]
+    for target, *ways in KEY_NEEDS.findall(fault.said) + SEEDS.findall(fault.said):
+        cures += [cure for way in ways for cure in _with(target, way, fault, outline)]
     for name, column, target, columns in REFERRED.findall(fault.said):
         cures.append(_cure(f"key ({columns}) of {target}",
                            _clause("target", target, {"kind": "key", "columns": columns.split(", ")})))

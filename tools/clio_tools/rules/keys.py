@@ -42,8 +42,8 @@ def ways_for_key(drawing: Drawing, rows: Rows) -> list[str]:
         needs = [_need_of(rows, column) for column in key if table.columns[column] != "#up"]
         found = [need for need in needs if need is not None]
         if found and len(found) == len(needs):
-            ways = [max(need.ways - rows.base.ways, key=len, default=()) for need in found]
-            return sorted({spelled(way) for way in ways if way})
+            ways = {way for need in found for way in need.ways - rows.base.ways}
+            return sorted(spelled(way) for way in ways if all(way == more or way != more[:len(way)] for more in ways))
     return []
 
 

@@ -1,7 +1,7 @@
 """The rules of each `rows`: one for each different need beyond its base, the empty one included."""
 from ..mapping import tree
 from ..mapping.schema import Link
-from .keys import by_use, known, linked, settled
+from .keys import by_use, known, linked, settled, ways_for_key
 from .lookups import looked
 from .model import Drawing, Made, Rows, Use, Value
 from .terms import NOTHING, Cell, Need, Open, Row
@@ -105,12 +105,15 @@ def _keyless(drawing: Drawing, rows: Rows, extra: Need, group: Group) -> Wrong:
     column = group.values[0][0] if group.values else link.own[0] if link else 0
     at = line.target.column if line else rows.note.target if rows.note else drawing.tree.version_at
     way = max(extra.ways, key=len, default=())
-    out = f", or write `with {spelled(way)}` if rows without one are not meant" if way else ""
+    known_by = ways_for_key(drawing, rows)
+    out = ""
+    if way and spelled(way) not in known_by:
+        out = f", or write `with {spelled(way)}` if rows without one are not meant"
     if way and group.values and not extra.tests:
         out += f", or `lookup {drawing.ways.name(way[0].table)};`"
+    cure = f"write `with {', '.join(known_by)}`, which its key needs" if known_by else f"give set {table.name} a key"
     return wrong(at, f"{drawing.column(rows, column)} is not there for each {source}, and {table.name} has no key that "
-                 f"lines "
-                     f"give, by which the row with it and the row without it are one: give set {table.name} a key{out}")
+                 f"lines give, by which the row with it and the row without it are one: {cure}{out}")
 
 
 def _check_links(drawing: Drawing, rows: Rows, cells: dict[int, Cell]) -> None:
