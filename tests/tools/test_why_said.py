@@ -223,6 +223,18 @@ class Said(Trial):
         reason = json.loads(self.printed("clio-why", "--json", "line", f"key={HOSTILE[2]}"))["reasons"][0]
         self.assertEqual((reason["row"], reason["cells"][0]["given"][0]["text"]), ([HOSTILE[2], "2"], HOSTILE[2]))
 
+    def test_other_runs(self) -> None:
+        """No reason is given of files that are of another run than the sources, and none is looked for in a device."""
+        self.example("teams")
+        self.printed("clio-why", "person", "name=ann")
+        self.file("emp.csv", "name,dept\nann,books\nbob,toys\n")
+        self.refused("clio-why", "person", "name=ann", why="out is not of these files, run clio exchange again")
+        self.clio("exchange")
+        self.printed("clio-why", "person", "name=ann")
+        (self.folder / "out" / "fold.csv").unlink()
+        (self.folder / "out" / "fold.csv").symlink_to("/dev/zero")
+        self.refused("clio-why", "person", "name=ann", why="out/fold.csv is missing, or is no file")
+
     def test_printed(self) -> None:
         """What is printed, how it ends, and what is refused."""
         self.example("teams")
@@ -243,8 +255,7 @@ class Said(Trial):
         self.refused("clio-why", "team", why="usage")
         self.refused("clio-why", "team", "toys", "--ids", "gone.db", why="gone.db is no file")
         self.file("emp.csv", "name,dept\nzed,toys\n")
-        self.refused("clio-why", "person", "ann", why="no rule asks for this row of person: out is not of these files, "
-                                                      "run clio exchange again")
+        self.refused("clio-why", "person", "ann", why="out is not of these files, run clio exchange again")
         text = (self.folder / "mapping.clio").read_text()
         self.file("mapping.clio", text.replace("line dept.city -> team.town;", ""))
         said = self.printed("clio-why", "person", "zed")

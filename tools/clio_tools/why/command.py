@@ -55,7 +55,7 @@ from clio_tools.explain.drawn import with_drawing
 from clio_tools.explain.source import file_of
 from clio_tools.mapping.meaning import Unread, read_mapping
 from clio_tools.program import Refused, harmless, program, remark, run
-from clio_tools.why.exchange import Exchange, read_bytes, rules_in
+from clio_tools.why.exchange import AGAIN, Exchange, read_bytes, rules_in
 from clio_tools.why.finding import rows_of, values_of, wanted
 from clio_tools.why.numbers import Numbers
 from clio_tools.why.reasons import MOST_MADE, MOST_MATCHES, Reasons
@@ -85,6 +85,7 @@ def words_of(words: list[str]) -> argparse.Namespace:
 def exchanged(folder: pathlib.Path, is_core: bool) -> Iterator[Reasons]:
     """The reasons of a folder: of what is in `out`, or of a run in a folder of its own."""
     if is_usable(folder):
+        check_one_run(folder)
         yield Reasons.of_folder(folder)
         return
     with tempfile.TemporaryDirectory(prefix="clio-why-") as name:
@@ -109,8 +110,22 @@ def files_of(folder: pathlib.Path) -> list[str]:
     return [file_of(table) for table in mapping.source if table.parent is None]
 
 
+def check_one_run(folder: pathlib.Path) -> None:
+    """Refuses files that clio didn't write after the mapping and the sources were as they are."""
+    read = [path for name in ["mapping.clio", *files_of(folder)] if (path := folder / name).exists()]
+    newest = max(read, key=lambda path: path.stat().st_mtime_ns)
+    targets = [f"{table.name}.csv" for table in read_mapping(read_bytes(folder / "mapping.clio")).target]
+    for path in (folder / "out" / name for name in ["rules.txt", "nulls.csv", "fold.csv", *targets]):
+        if not path.is_file():  # a device or a pipe may never end
+            raise Refused(f"{path} is missing, or is no file: {AGAIN}")
+        if path.stat().st_mtime_ns < newest.stat().st_mtime_ns:
+            raise Refused(f"out is not of these files, {AGAIN}: {path} is older than {newest}")
+
+
 def is_usable(folder: pathlib.Path) -> bool:
     """Whether `out` has a run of this mapping, with nulls as clio names them."""
+    if not all((folder / "out" / name).is_file() for name in ("nulls.csv", "rules.txt")):
+        return False
     try:
         with open(folder / "out" / "nulls.csv", "rb") as file:
             is_renamed = file.readline().startswith(b"id,")
