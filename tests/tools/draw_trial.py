@@ -6,6 +6,7 @@ import os
 import pathlib
 import random
 import select
+import signal
 import shutil
 import subprocess
 import sys
@@ -41,9 +42,11 @@ ENVIRONMENT["PYTHONPYCACHEPREFIX"] = str(room())
 @contextlib.contextmanager
 def served(*words: str | pathlib.Path, env: dict[str, str] | None = None,
            cwd: pathlib.Path | None = None) -> Iterator["subprocess.Popen[str]"]:
-    """clio-draw, which is ended in the end; a test fails if it doesn't end by itself."""
+    """clio-draw, which is ended in the end; a test fails if it doesn't end by itself. It hears Ctrl-C as on a terminal,
+    also if the tests are run in the background.
+    """
     with subprocess.Popen([sys.executable, "-B", TOOLS / "clio-draw", *words], stdout=subprocess.PIPE, text=True, env=env,
-                          cwd=cwd) as process:
+                          cwd=cwd, preexec_fn=lambda: signal.signal(signal.SIGINT, signal.SIG_DFL)) as process:
         try:
             yield process
             process.terminate()
