@@ -4,14 +4,17 @@ changes nothing.
 from __future__ import annotations
 
 import contextlib
+import pathlib
 import sqlite3
 import unittest
+import unittest.mock
 
 import server
 from forked import ended
 from trial import Trial
 
 from clio_tools.databases.postgres import Session
+from clio_tools.load.command import crosswalk_of
 
 STARTED = contextlib.ExitStack()
 PLACE: list[str] = []
@@ -131,6 +134,22 @@ class OnSqlite(Hostile):
         self.source("code,x", "B,2\n")
         self.refused("clio-load", *self.words, "--delete", why="would be deleted or altered with them")
         self.assertEqual(self.rows("SELECT code FROM child"), [("a",)])
+
+    def test_a_crosswalk_that_goes_away(self) -> None:
+        """A crosswalk that was made for nothing is locked until it is gone, so nobody's numbers go with it."""
+        path, others = self.folder / "ids.db", []
+        unlink = pathlib.Path.unlink
+
+        def tried(one: pathlib.Path, missing_ok: bool = False) -> None:
+            with contextlib.closing(sqlite3.connect(path, timeout=0, isolation_level=None)) as other:
+                with self.assertRaisesRegex(sqlite3.OperationalError, "locked"):
+                    other.execute("BEGIN IMMEDIATE")
+            others.append(one)
+            unlink(one, missing_ok)
+
+        with unittest.mock.patch.object(pathlib.Path, "unlink", tried), crosswalk_of(str(path)):
+            pass
+        self.assertEqual((others, path.exists()), ([path], False))
 
     def test_a_number_that_was_not_used(self) -> None:
         """A load that fails at its end has numbers of the database's own that a row of somebody else may get then."""

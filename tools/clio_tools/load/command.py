@@ -167,10 +167,9 @@ def crosswalk_of(path: str | None) -> Iterator[Crosswalk | None]:
     try:
         yield crosswalk
     finally:
-        is_kept = not crosswalk.base.in_transaction
-        crosswalk.close()
-        if is_new and not is_kept:
+        if is_new and crosswalk.base.in_transaction:  # still locked: nobody writes into a file that goes away
             pathlib.Path(path).unlink(missing_ok=True)
+        crosswalk.close()
 
 
 def tell(text: str) -> None:
