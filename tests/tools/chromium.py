@@ -30,7 +30,7 @@ class Failed(Exception):
 
 
 class Chromium:
-    """A browser with one page. One that doesn't answer in time is killed with all its processes, and `ended` is true."""
+    """A browser with one page. One that doesn't answer in time is killed with all its processes: `ended` is true."""
 
     def __init__(self, width: int = 1400, height: int = 900) -> None:
         assert PATH is not None

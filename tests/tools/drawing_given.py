@@ -52,7 +52,8 @@ class Given:
         for column, value in target.columns.items():
             looked = self.looks(target.start, value, [*target.musts, *(steps for steps, _ in target.tests)])
             at_end = self.looked(looked[0], self.rows[target.start][key][looked[1]], looked[2]) if looked else None
-            made.append(row[column] if row[column] is not None else at_end or self.null(target.name, key, column))
+            cell = row[column]
+            made.append(cell if cell is not None else at_end or self.null(target.name, key, column))
         for column, other in target.links.items():
             made.append(self.linked(target, key, column, other, row[column]))
         return made

@@ -46,7 +46,8 @@ def tried(seed: str, folder: pathlib.Path, tally: Counter[str]) -> Optional[str]
     if not one.looked_up and rules != {each.name: each.number_of_rules() for each in one.targets}:
         return f"rules: {rules}"
     wanted = one.wanted(source_base(folder))
-    for words in ([], ["--core"]):
+    ways: tuple[list[str], ...] = ([], ["--core"])
+    for words in ways:
         status, _, message = clio(folder, "exchange", *words)
         got = target_of(one, folder) if status == 0 else {}
         if got != wanted:

@@ -94,18 +94,20 @@ class Edits(unittest.TestCase):
 
     def test_refused(self) -> None:
         one: dict[str, object] = {"do": "add_line", "source": {"columns": [["a", "x"]]}, "target": ["c", "u"]}
-        for action in ({**one, "source": {"literal": "a\nb"}}, one, {**one, "source": {"columns": [["a", "x; rule"]]}},
-                       {"do": "delete", "kind": "line", "index": 9}, {"do": "delete", "kind": "line", "index": True},
-                       {"do": "add_rule", "text": "rule a(x, y) -> c(x, y); line a.x -> c.u;"},
-                       {"do": "add_rule", "text": "} rule"}, {"do": "text"}, {"do": "__init__", "text": ""},
-                       {**one, "source": {"columns": [["a", "x"]], "conversion": "pair"}}, {**one, "source": {}},
-                       {**one, "source": {"columns": [["b", "z"]], "by": ["y; line"]}},
-                       {**one, "source": {"columns": [["b", "z"]], "by": ["y where x filled"]}},
-                       {**one, "rows": "a; line"}, {**one, "more": 1},
-                       {"do": "change_notes", "index": 0, "of": "a", "where": "x = 1"},
-                       {"do": "change_notes", "index": 0, "of": "", "where": 'x = "a"; line a.x -> c.u'},
-                       {"do": "add_clause", "side": "source", "set_name": "a", "clause": {"kind": "key"}},
-                       {"do": "add_clause", "side": "elsewhere", "set_name": "a", "clause": {"kind": "key"}}):
+        refused: tuple[dict[str, object], ...] = (
+            {**one, "source": {"literal": "a\nb"}}, one, {**one, "source": {"columns": [["a", "x; rule"]]}},
+            {"do": "delete", "kind": "line", "index": 9}, {"do": "delete", "kind": "line", "index": True},
+            {"do": "add_rule", "text": "rule a(x, y) -> c(x, y); line a.x -> c.u;"},
+            {"do": "add_rule", "text": "} rule"}, {"do": "text"}, {"do": "__init__", "text": ""},
+            {**one, "source": {"columns": [["a", "x"]], "conversion": "pair"}}, {**one, "source": {}},
+            {**one, "source": {"columns": [["b", "z"]], "by": ["y; line"]}},
+            {**one, "source": {"columns": [["b", "z"]], "by": ["y where x filled"]}},
+            {**one, "rows": "a; line"}, {**one, "more": 1},
+            {"do": "change_notes", "index": 0, "of": "a", "where": "x = 1"},
+            {"do": "change_notes", "index": 0, "of": "", "where": 'x = "a"; line a.x -> c.u'},
+            {"do": "add_clause", "side": "source", "set_name": "a", "clause": {"kind": "key"}},
+            {"do": "add_clause", "side": "elsewhere", "set_name": "a", "clause": {"kind": "key"}})
+        for action in refused:
             with self.assertRaises(CannotEdit, msg=action):
                 edited(TEXT, action)
         with self.assertRaises(CannotEdit):

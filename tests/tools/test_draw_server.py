@@ -1,4 +1,5 @@
 """clio-draw's server: who is let in, how the text is saved, and how a run that is overtaken ends."""
+import functools
 import http.client
 import json
 import os
@@ -153,6 +154,10 @@ class Requests(Served):
 
 
 class Overtaken(Served):
+    def is_live(self, helper: Helper) -> bool:
+        """Whether a live run is under way."""
+        return helper.doing == "live"
+
     def test_a_run_that_is_overtaken_ends(self) -> None:
         slow = draw_trial.room() / "clio"
         slow.write_text(f'#!/bin/sh\nif [ "$1" = exchange ] && grep -q slow mapping.clio; then exec sleep 60; fi\n'
@@ -166,7 +171,7 @@ class Overtaken(Served):
             first = threading.Thread(target=lambda whole=whole, found=found: found.append(
                 self.live(text + "// slow\n", whole)))
             first.start()
-            draw_trial.until(lambda whole=whole: self.helpers[whole].doing == "live", "the run has begun")
+            draw_trial.until(functools.partial(self.is_live, self.helpers[whole]), "the run has begun")
             time.sleep(.5)
             began = time.monotonic()
             self.assertEqual(self.live(text, whole)["tables"]["team"]["count"], 2)

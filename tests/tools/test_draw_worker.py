@@ -1,6 +1,5 @@
 """clio-draw's live runs on all examples: the rows are those of clio, each row has a reason, and samples keep links."""
 import csv
-import itertools
 import json
 import os
 import pathlib
@@ -228,8 +227,8 @@ class Live(unittest.TestCase):
         shops = json.loads((example / "shop.json").read_text())
         text = json.dumps([shops[number % len(shops)] for number in range(3000)])
         for member in "code", "no":
-            count = itertools.count()
-            text = re.sub(f'"{member}": "', lambda _, member=member, count=count: f'"{member}": "{next(count)}-', text)
+            first, *others = text.split(f'"{member}": "')
+            text = first + "".join(f'"{member}": "{number}-{part}' for number, part in enumerate(others))
         (folder / "shop.json").write_text(text)
         ask = Asked(folder)
         made = ask.live((folder / "mapping.clio").read_text(), rows=50)
@@ -255,7 +254,9 @@ class Live(unittest.TestCase):
                        sets + " // \u00e4\U0001f600\nline a.x -> b.<q>;",
                        sets + "rows b from a;\nline a.<z> -> b.y;", sets + "rows b from <c>;\nline a.x -> b.y;"):
             start = marked.index("<")
-            end = start + re.search("[^<]*?(?<!-)>", marked[start:]).end() - 2  # type: ignore[union-attr]
+            found = re.search("[^<]*?(?<!-)>", marked[start:])
+            assert found is not None
+            end = start + found.end() - 2
             text = marked[:start] + marked[start + 1:end + 1] + marked[end + 2:]
             fault = Asked(draw_trial.room()).live(text)["fault"]
             wide = text[:start].count("\U0001f600")  # two units of a browser's text

@@ -57,9 +57,9 @@ class Loads(Trial):
 
     base: Base
 
-    def tool(self, name: str, *words: str, text: str = "") -> tuple[int, str, str]:
+    def tool(self, name: str, *words: str | bytes, text: str = "") -> tuple[int, str, str]:
         """How a tool ends, in a process that has the modules of this one already."""
-        return ended(name, words, self.folder, text)
+        return ended(name, [os.fsdecode(word) for word in words], self.folder, text)
 
     def load(self, *words: str) -> str:
         """A load that succeeds; what it prints."""
@@ -112,6 +112,9 @@ class Loads(Trial):
 
 class Common(Loads):
     """The tests of both databases; they are run by the classes below."""
+
+    truth: tuple[str, str]  # how a database shows true and false
+    plain_total: str
 
     def test_first(self) -> None:
         """Each table has what the mapping demands; unknown columns have their defaults; texts are as they were."""
@@ -555,6 +558,7 @@ class OnPostgres(Common):
 
     truth = "t", "f"
     plain_total = "0.10"
+    base: PostgresBase
     times = {"2026-11-10T10:01:00Z": "2026-11-10 10:01:00+00", "2026-11-11 09:00:00+02": "2026-11-11 07:00:00+00"}
 
     def setUp(self) -> None:

@@ -6,6 +6,7 @@ import re
 import shutil
 import subprocess
 import unittest
+from collections.abc import Callable
 
 from trial import TOP, Trial
 
@@ -144,10 +145,11 @@ class Install(Repository):
         self.assertEqual(self.install()[0], 0)  # once more, over its own
 
     def test_nothing_of_others_is_replaced(self) -> None:
-        for name, make in (("bin/clio", lambda path: path.write_text("another program")),
-                           ("bin/clio-sql", lambda path: path.symlink_to("/bin/true")),
-                           ("bin/clio-draft", lambda path: path.mkdir()),
-                           ("share/man/man1/clio-ids.1", lambda path: path.write_text(".TH OTHER 1\n"))):
+        others: dict[str, Callable[[pathlib.Path], object]] = {
+            "bin/clio": lambda path: path.write_text("another program"),
+            "bin/clio-sql": lambda path: path.symlink_to("/bin/true"), "bin/clio-draft": lambda path: path.mkdir(),
+            "share/man/man1/clio-ids.1": lambda path: path.write_text(".TH OTHER 1\n")}
+        for name, make in others.items():
             prefix = self.folder / name.replace("/", " ")
             (prefix / name).parent.mkdir(parents=True)
             make(prefix / name)

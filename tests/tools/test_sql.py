@@ -326,7 +326,7 @@ class SameFile(Trial):
         self.file("mapping.clio", "mapping 2; source { set a { k, x; } } target { set t { k, x, y; key (k); } }\n"
                                   "only a.k numeric; line trim(a.k) -> t.k; line a.x -> t.x;")
         words = ["clio-sql", "postgres", "--core", "--explain"]
-        mine, other = (self.printed(*words, *more) for more in ([], ["--dialect", "duckdb"]))
+        mine, other = self.printed(*words), self.printed(*words, "--dialect", "duckdb")
         self.assertIn("-- It was never run: ", other)
         self.assertNotRegex(other, "COLLATE|UNLOGGED|ANALYZE|btrim| ~ |[^/]/ [0-9]")
         for one, another in (" COLLATE \"C\"", ""), (" COLLATE \"default\"", ""), ("UNLOGGED ", ""), ("btrim", "trim"):
@@ -371,9 +371,11 @@ class Told(Trial):
         self.assertIsNone(forecast.left("anything", 1))
         forecast = Forecast()
         forecast.expect({"matches": 10, "key of t": 20, "key of u": 5, "writing t": 30, "writing nulls": 10})
-        self.assertAlmostEqual(forecast.left("matches", 2), 13)
-        self.assertAlmostEqual(forecast.left("key of t", 7), 9 / 30 * 45)
-        self.assertAlmostEqual(forecast.left("writing t", 3), 12 / 60 * 10)  # the key of u wasn't asked
+        for step, seconds, wanted in (("matches", 2, 13), ("key of t", 7, 9 / 30 * 45),
+                                      ("writing t", 3, 12 / 60 * 10)):  # the key of u wasn't asked
+            left = forecast.left(step, seconds)
+            assert left is not None
+            self.assertAlmostEqual(left, wanted)
         self.assertIsNone(forecast.left("writing nulls", 1))
 
     def test_rounded(self) -> None:

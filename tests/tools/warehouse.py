@@ -154,6 +154,10 @@ class Base:
         """The made-up numbers of things by their keys."""
         return {name: {row[0]: row[1] for row in self.all(query)} for name, query in NUMBERS.items()}
 
+    def written(self, name: str) -> int:
+        """How many rows of a table were written since this was asked before."""
+        raise NotImplementedError
+
 
 class SqliteBase(Base):
     """An SQLite file."""
