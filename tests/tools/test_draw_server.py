@@ -237,6 +237,8 @@ class Folders(unittest.TestCase):
 
 class Command(Trial):
     def test_it_prints_an_address_and_ends(self) -> None:
+        before = signal.signal(signal.SIGINT, signal.default_int_handler)  # what runs behind a shell would ignore it
+        self.addCleanup(signal.signal, signal.SIGINT, before)
         for name, status in (signal.SIGTERM, 143), (signal.SIGINT, 130):
             with draw_trial.served(draw_trial.EXAMPLES / "teams") as process:
                 self.assertRegex(draw_trial.first_line(process), r"\Ahttp://127\.0\.0\.1:[0-9]+/[\w-]{32}/\Z")
