@@ -6,6 +6,7 @@ from ..explain.endings import explained
 from ..explain.placed import token_length
 from ..mapping.meaning import Unread, read_mapping
 from ..mapping.places import Fault, Text
+from ..program import ending
 from .cures import of_fault
 from .outline import Data, Outline
 from .sample import Report
@@ -35,10 +36,12 @@ def in_whole_files(line: str, report: Report) -> str:
     for taken in report.values():
         if taken.places:
             line = _at_record(line, taken.file, taken.places)
-            line = re.sub(rf"\b{re.escape(taken.file)}/([0-9]+)",
-                          lambda found, taken=taken: taken.file + taken.places[int(found[1])],  # type: ignore[misc]
-                          line)
+            line = _at_member(line, taken.file, taken.places)
     return line
+
+
+def _at_member(line: str, file: str, places: list[str]) -> str:
+    return re.sub(rf"\b{re.escape(file)}/([0-9]+)", lambda found: file + places[int(found[1])], line)
 
 
 def _at_record(line: str, file: str, places: list[str]) -> str:
@@ -66,7 +69,7 @@ def _explained(status: int, message: str, words: list[str], report: Report) -> I
         for line in explained(status, message, words):
             yield in_whole_files(line, report)
     except Exception as error:  # pylint: disable=broad-except
-        yield f"no more can be said of it ({type(error).__name__})"
+        yield f"no more can be said of it: {ending(error)[1]}"
 
 
 def of_drawing(faults: tuple[Fault, ...], content: bytes) -> Data:

@@ -10,7 +10,7 @@ from ..explain.traps import Traps, switched_off
 from ..mapping.meaning import Mapping, read_mapping
 from ..mapping.rules import TooLarge, closed
 from ..mapping.rules import printed as printed_rule
-from ..program import Refused
+from ..program import Refused, ending
 from ..why.exchange import is_null
 from . import faults
 from .clashing import of_clash
@@ -168,7 +168,7 @@ class Live:
                                   "lines": [faults.in_whole_files(line, self.report) for line in one.lines],
                                   "cures": of_warning(one.name, one.set, one.lines[0], outline)})
         except (Exception, MemoryError) as error:  # pylint: disable=broad-except
-            found.append({"name": "", "set": "", "cures": [], "lines": [f"no more warnings ({type(error).__name__})"]})
+            found.append({"name": "", "set": "", "cures": [], "lines": [f"no more warnings: {ending(error)[1]}"]})
         return {"warnings": found}
 
     # --- reasons -----------------------------------------------------------------------------------------------------

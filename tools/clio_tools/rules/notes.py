@@ -1,4 +1,5 @@
 """What the notes of a drawing say of each target set: from which rows it is made, and which values lines give it."""
+from functools import partial
 from typing import Callable, Optional
 
 from ..mapping import tree
@@ -12,7 +13,7 @@ from .ways import Way, Wrong, wrong
 def read_rows(drawing: Drawing) -> None:
     """The `rows` statements, each with its base as far as `with` and `where` say it."""
     for note in drawing.tree.rows:
-        _guarded(drawing, lambda note=note: _begin(drawing, note))  # type: ignore[misc]
+        _guarded(drawing, partial(_begin, drawing, note))
     for word in drawing.tree.lookups:
         fault = of_set(word, drawing.source)
         drawing.faults += [fault] if fault else []
@@ -23,9 +24,9 @@ def read_lines(drawing: Drawing) -> None:
     used: set[int] = set()
     for rows in drawing.rows:
         for line in _lines_of(drawing, rows):
-            _guarded(drawing, lambda line=line, rows=rows: _read_line(drawing, line, rows, used))  # type: ignore[misc]
+            _guarded(drawing, partial(_read_line, drawing, line, rows, used))
     for line in drawing.tree.lines:
-        _guarded(drawing, lambda line=line: _check_use(drawing, line, used))  # type: ignore[misc]
+        _guarded(drawing, partial(_check_use, drawing, line, used))
 
 
 def _guarded(drawing: Drawing, work: Callable[[], None]) -> None:
