@@ -429,6 +429,20 @@ class Common(Loads):
                          [("N", "Bonn"), ("S", "Ulm"), ("W", "Paris")])
         self.refused("clio-load", *self.base.words, "--identity", why="--identity needs --ids")
 
+    def test_another_crosswalk(self) -> None:
+        """A crosswalk that isn't there would give all rows that were loaded new numbers: it is refused. With --identity
+        they keep theirs, and empty tables take it."""
+        self.source(FIRST)
+        self.load("--identity")
+        state = self.base.state()
+        for words in ["--delete"], ["--delete", "--dry-run"], []:
+            self.refused("clio-load", *self.base.words, "--ids", "idz.db", *words, why="idz.db is a new crosswalk, and "
+                         "rows of")
+            self.assertEqual(self.base.state(), state)
+            self.assertFalse((self.folder / "idz.db").exists())
+        self.printed("clio-load", *self.base.words, "--ids", "idz.db", "--identity", "--delete")
+        self.assertEqual(self.base.state(), state)
+
     def test_out(self) -> None:
         """Files of an exchange are taken with their summary, and refused if they are cut, old or of another mapping."""
         self.source(FIRST)

@@ -101,13 +101,13 @@ class Crosswalk:
 
     def __init__(self, path: str) -> None:
         self.path = path
-        is_new = check_file(path)
+        self.is_new = check_file(path)
         try:
             self.base = sqlite3.connect(path, isolation_level=None, timeout=5)
             self.base.execute(f"PRAGMA main.cache_size = -{CACHE}")
             self.base.executescript(f"PRAGMA temp.cache_size = -{CACHE}; {WORK}")
             self.base.execute("BEGIN IMMEDIATE")
-            if is_new:
+            if self.is_new:
                 self.make()
             self.check()
         except sqlite3.Error as error:

@@ -115,10 +115,21 @@ class Load:
         for plan in staged:
             comparison.compare(plan, rows[plan.number])
             self.tell(f"compared {plan.table.name}")
+        self.check_crosswalk(comparison.record)
         comparison.find_referred()
         for plan in staged:
             comparison.count_extra(plan)
         return comparison
+
+    def check_crosswalk(self, record: Record) -> None:
+        """Refuses a new crosswalk if rows are there that a load wrote by the numbers of another one."""
+        if self.crosswalk is None or not self.crosswalk.is_new or self.identity is not None or record.sql is None:
+            return
+        for plan in self.plan.tables:
+            if set(plan.key or []) & set(plan.numbered) and not plan.is_empty and record.count(plan):
+                raise Refused(f"{self.crosswalk.path} is a new crosswalk, and rows of {shown_name(plan.table.name)} "
+                              "have the numbers of another one: give that one, or take --identity, with which rows keep "
+                              "the numbers that they have; nothing is changed")
 
     def misfits(self) -> Iterator[str]:
         """All that doesn't fit, as lines."""
