@@ -45,8 +45,8 @@ def served(*words: str | pathlib.Path, env: dict[str, str] | None = None,
     """clio-draw, which is ended in the end; a test fails if it doesn't end by itself. It hears Ctrl-C as on a terminal,
     also if the tests are run in the background.
     """
-    with subprocess.Popen([sys.executable, "-B", TOOLS / "clio-draw", *words], stdout=subprocess.PIPE, text=True, env=env,
-                          cwd=cwd, preexec_fn=lambda: signal.signal(signal.SIGINT, signal.SIG_DFL)) as process:
+    with subprocess.Popen([sys.executable, "-B", TOOLS / "clio-draw", *words], stdout=subprocess.PIPE, text=True,
+                          env=env, cwd=cwd, preexec_fn=lambda: signal.signal(signal.SIGINT, signal.SIG_DFL)) as process:
         try:
             yield process
             process.terminate()
