@@ -127,9 +127,10 @@ class Load:
             return
         for plan in self.plan.tables:
             if set(plan.key or []) & set(plan.numbered) and not plan.is_empty and record.count(plan):
-                raise Refused(f"{self.crosswalk.path} is a new crosswalk, and rows of {shown_name(plan.table.name)} "
-                              "have the numbers of another one: give that one, or take --identity, with which rows keep "
-                              "the numbers that they have; nothing is changed")
+                name = shown_name(plan.table.name)
+                raise Refused(f"{self.crosswalk.path} is a new crosswalk, and rows of {name} have the numbers of "
+                              "another one: give that one, or take --identity, with which rows keep the numbers "
+                              "that they have; nothing is changed")
 
     def misfits(self) -> Iterator[str]:
         """All that doesn't fit, as lines."""
