@@ -435,7 +435,8 @@ class Common(Loads):
         self.source(FIRST)
         self.load("--identity")
         state = self.base.state()
-        for words in ["--delete"], ["--delete", "--dry-run"], []:
+        ways: list[list[str]] = [["--delete"], ["--delete", "--dry-run"], []]
+        for words in ways:
             self.refused("clio-load", *self.base.words, "--ids", "idz.db", *words, why="idz.db is a new crosswalk, and "
                          "rows of")
             self.assertEqual(self.base.state(), state)
