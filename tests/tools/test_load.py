@@ -532,6 +532,23 @@ class OnSqlite(Common):
         super().setUp()
         self.base = SqliteBase(self.folder / "house.db")
 
+    def test_identity_with_a_foreign_key_that_is_no_ref(self) -> None:
+        """A table may refer to itself where the mapping declares no ref: what it refers by is the same number."""
+        self.file("mapping.clio", """mapping 2;
+            source { set op { id, code, parent; } }
+            target { set company { cid, code, owner; key (cid); key (code); } }
+            rule op(i, c, p) -> company(k, c, o);
+            rule op(i, c, p), op(p, d, q) -> company(k, c, o), company(o, d, r);""")
+        self.file("op.csv", "id,code,parent\n1,A,\n2,B,1\n3,C,9\n")
+        with contextlib.closing(sqlite3.connect(self.folder / "own.db")) as base:
+            base.executescript("""CREATE TABLE company (cid INTEGER PRIMARY KEY, code TEXT NOT NULL UNIQUE,
+                owner INTEGER REFERENCES company (cid));
+                INSERT INTO company VALUES (70, 'Z', NULL), (71, 'B', NULL);""")
+            for _ in range(2):
+                self.printed("clio-load", "sqlite", "own.db", "--ids", "own_ids.db", "--identity")
+                self.assertEqual(base.execute("SELECT * FROM company ORDER BY cid").fetchall(),
+                                 [(70, "Z", None), (71, "B", 72), (72, "A", None), (73, "C", None)])
+
     def test_lock(self) -> None:
         """A file that somebody else has locked stays as it was."""
         self.first()

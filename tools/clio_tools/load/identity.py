@@ -1,10 +1,11 @@
 """The tables' own numbers: with `--identity` surrogate keys have these in place of the crosswalk's, which keeps them.
 
-A domain is a column of surrogate keys, with the columns that refs of the mapping link to it. A thing without a value
-yet gets that of the row which another key of its own leads to, or else the next one.
+A domain is a column of surrogate keys, with the columns that refs of the mapping or foreign keys link to it. A thing
+without a value yet gets that of the row which another key of its own leads to, or else the next one.
 """
 from __future__ import annotations
 
+from collections.abc import Iterator
 from typing import NamedTuple
 
 from clio_tools.ids.crosswalk import Crosswalk
@@ -113,12 +114,26 @@ class Identity:
 
 
 def linked(plan: Plan, sets: list[Set], home: tuple[str, str]) -> list[tuple[TablePlan, int]]:
-    """The loaded columns that refs link to a column, with itself."""
+    """The loaded columns that refs or foreign keys link to a column, with itself."""
     pairs = [((one.name, own), (other, referred)) for one in sets for columns, other, listed in one.links
              + one.optional_refs
              for own, referred in zip(columns, listed)]
+    pairs += foreign_pairs(plan)
     found = {home}
     while more := {one for pair in pairs for one in pair if found & set(pair)} - found:
         found |= more
     return [(one, number) for one in plan.tables for number, (place, _) in enumerate(one.columns)
             if (one.set.name, one.set.columns[place]) in found]
+
+
+def foreign_pairs(plan: Plan) -> Iterator[tuple[tuple[str, str], tuple[str, str]]]:
+    """The pairs of loaded columns that foreign keys link."""
+    for key in plan.foreign_keys:
+        child, parent = plan.by_sql(key.child), plan.by_sql(key.parent)
+        if child is None or parent is None:
+            continue
+        for own, referred in zip(key.columns, key.referred):
+            place, other = child.place_of(own), parent.place_of(referred)
+            if place is not None and other is not None:
+                yield ((child.set.name, child.set.columns[child.columns[place][0]]),
+                       (parent.set.name, parent.set.columns[parent.columns[other][0]]))
