@@ -31,6 +31,7 @@ Columns = Sequence[tuple[str, str]]  # names, and types with their collations
 def reached(lines: Sequence[str]) -> list[postgres.Place]:
     """How the servers of a list are reached; a line that says it otherwise is told by its number alone, as it may
     hold a password."""
+    postgres.library()  # what is missing is said as such, and not as a fault of a line
     places = []
     for number, line in enumerate(lines, 1):
         if not line.strip():
