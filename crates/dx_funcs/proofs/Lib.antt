@@ -1,3 +1,4 @@
+pub mod Apart
 pub mod Examples
 pub mod Offered
 pub mod Judged

@@ -1,11 +1,18 @@
 -- Conversions that are found in a list, and that the shipped list is an offer.
-use Rattle.std.proofs.Common.{◌≡◌, ℕ, ◌<◌, ◌≤◌, List, [], ◌∷◌, length, get_or, take, map, sym, ap, ◌∙◌, arith, codes, inl, inr, ◌⊎◌}
+use Rattle.std.proofs.Common.{◌≡◌, ℕ, ◌<◌, ◌≤◌, List, [], ◌∷◌, length, get_or, take, map, refl, sym, ap, ◌∙◌, inl, inr, ◌⊎◌}
+use Rattle.std.specs.Prelude.{Bool, true, ◌&&◌, nat_eq, nat_le}
+use Rattle.std.specs.List.{list_all}
+use lib.Pointwise.{pointwise}
+use Rattle.std.proofs.lemmas.Bool.{and_parts, leb-true}
+use Rattle.std.proofs.lemmas.Cmp.{nat_eq_equiv, nat_list_eq_equiv}
 use Rattle.std.proofs.lemmas.List.{take_all}
 use Rattle.dx_base.specs.Members.{◌∈◌, here, there, Distinct, Each}
 use Rattle.dx_base.proofs.Members.{in_at, in_map, from_map}
+use Rattle.dx_base.proofs.Tests.{from_all}
 use Rattle.dx_funcs.specs.declared.conversion.Conversion.{Conversion}
 use Rattle.dx_funcs.specs.Offers.{IsOffer, IsListed}
 use Rattle.dx_funcs.specs.Shipped.{shipped_conversions}
+use Rattle.dx_funcs.proofs.Apart.{distinct_by}
 
 -- ---- a conversion that is looked for
 
@@ -46,47 +53,30 @@ arity_listed list c count offer m (d, n, is_code, is_arity) = ap (λ (x : Conver
 
 -- ---- the shipped list
 
--- each of three has what the three have
-each_of_three : {X : Type 0} (P : X → Type 0) (a b c : X) → P a → P b → P c → Each (a ∷ b ∷ c ∷ []) P
-each_of_three P a b c pa pb pc x (here e) = rw (← e) pa
-each_of_three P a b c pa pb pc x (there (here e)) = rw (← e) pb
-each_of_three P a b c pa pb pc x (there (there (here e))) = rw (← e) pc
-each_of_three P a b c pa pb pc x (there (there (there h))) = elim h [ ]
+-- it takes one to four texts
+abbrev takes_some : Conversion → Bool
+takes_some c = nat_le 1 c.arity && nat_le c.arity 4
 
--- three that differ are distinct
-distinct_three : {X : Type 0} (a b c : X) → ¬ (b ≡ a) → ¬ (c ≡ a) → ¬ (c ≡ b) → Distinct (a ∷ b ∷ c ∷ [])
-distinct_three {X} a b c ba ca cb = (first, (second, (third, tt)))
-  where
-    first : ¬ (a ∈ (b ∷ c ∷ []))
-    first (here e) = ba e
-    first (there (here e)) = ca e
-    first (there (there h)) = elim h [ ]
+each_takes_some : (list : List Conversion) → list_all takes_some list ≡ true → Each list (λ c. (1 ≤ c.arity) × (c.arity ≤ 4))
+each_takes_some list h c m =
+    let parts = and_parts (nat_le 1 c.arity) (nat_le c.arity 4) (from_all takes_some list h m) in
+    (leb-true 1 c.arity parts.0, leb-true c.arity 4 parts.1)
 
-    second : ¬ (b ∈ (c ∷ []))
-    second (here e) = cb e
-    second (there h) = elim h [ ]
-
-    third : ¬ (c ∈ [])
-    third h = elim h [ ]
-
--- texts that begin with different bytes differ
-pub apart : (a b : List ℕ) → ¬ (get_or a 0 0 ≡ get_or b 0 0) → ¬ (a ≡ b)
-apart a b differs e = differs (ap (λ l. get_or l 0 0) e)
-
-abbrev HasArity : Conversion → Type 0
-HasArity c = (1 ≤ c.arity) × (c.arity ≤ 4)
-
+-- whatever the shipped list has, it is an offer, as a computation finds
 pub shipped_offer : IsOffer shipped_conversions
 shipped_offer = record {
-  names = distinct_three (codes "trim") (codes "digits") (codes "pair") (apart _ _ (λ e. omega (arith, e))) (apart _ _ (λ e. omega (arith, e))) (apart _ _ (λ e. omega (arith, e)));
-  codes = distinct_three 0 1 2 (λ e. omega (arith, e)) (λ e. omega (arith, e)) (λ e. omega (arith, e));
-  arities = each_of_three HasArity (record { name = codes "trim"; code = 0; arity = 1 }) (record { name = codes "digits"; code = 1; arity = 1 }) (record { name = codes "pair"; code = 2; arity = 2 })
-      (omega arith, omega arith) (omega arith, omega arith) (omega arith, omega arith);
+  names = distinct_by (pointwise nat_eq) nat_list_eq_equiv (map (λ (c : Conversion). c.name) shipped_conversions) refl;
+  codes = distinct_by nat_eq nat_eq_equiv (map (λ (c : Conversion). c.code) shipped_conversions) refl;
+  arities = each_takes_some shipped_conversions refl;
 }
 
--- a code with its number of texts, as the shipped list has it
-pub shipped_cases : (code count : ℕ) → IsListed shipped_conversions code count → ((code ≡ 0) × (count ≡ 1)) ⊎ ((code ≡ 1) × (count ≡ 1)) ⊎ ((code ≡ 2) × (count ≡ 2))
-shipped_cases code count (c, here e, is_code, is_arity) = inl (sym is_code ∙ ap (λ (x : Conversion). x.code) (sym e), sym is_arity ∙ ap (λ (x : Conversion). x.arity) (sym e))
-shipped_cases code count (c, there (here e), is_code, is_arity) = inr (inl (sym is_code ∙ ap (λ (x : Conversion). x.code) (sym e), sym is_arity ∙ ap (λ (x : Conversion). x.arity) (sym e)))
-shipped_cases code count (c, there (there (here e)), is_code, is_arity) = inr (inr (sym is_code ∙ ap (λ (x : Conversion). x.code) (sym e), sym is_arity ∙ ap (λ (x : Conversion). x.arity) (sym e)))
-shipped_cases code count (c, there (there (there h)), is_code, is_arity) = elim h [ ]
+-- a code with a number of texts is that of one of these conversions
+abbrev pub IsOneOf : List Conversion → ℕ → ℕ → Type 0
+IsOneOf [] code count = ⊥
+IsOneOf (c ∷ cs) code count = ((code ≡ c.code) × (count ≡ c.arity)) ⊎ IsOneOf cs code count
+
+-- a code that is listed with its number of texts is
+pub one_of_listed : (list : List Conversion) (code count : ℕ) → IsListed list code count → IsOneOf list code count
+one_of_listed [] code count (c, m, is_code, is_arity) = elim m [ ]
+one_of_listed (d ∷ list) code count (c, here e, is_code, is_arity) = inl (sym is_code ∙ ap (λ (x : Conversion). x.code) (sym e), sym is_arity ∙ ap (λ (x : Conversion). x.arity) (sym e))
+one_of_listed (d ∷ list) code count (c, there m, is_code, is_arity) = inr (one_of_listed list code count (c, m, is_code, is_arity))
