@@ -36,6 +36,7 @@ fn conversion(alloc: Global, name: &str, code: u32, arity: u32) -> Result<Conver
 /// # Errors
 ///
 /// `AllocError` if there is no memory.
+#[tactic(auto, using(crate::proofs::Offered::shipped_offer))]
 pub fn shipped_list(alloc: Global) -> Result<Items<Conversion>, AllocError>
     ensures list { IfOk result (λ list. list ≡ shipped_conversions) }
     ensures offer { IfOk result (λ list. IsOffer list) }
@@ -78,6 +79,7 @@ fn row_test(alloc: Global, name: &str, code: u32) -> Result<RowTest, AllocError>
 /// # Errors
 ///
 /// `AllocError` if there is no memory.
+#[tactic(auto, using(crate::proofs::Judged::shipped_are_tests))]
 pub fn shipped_tests(alloc: Global) -> Result<Items<RowTest>, AllocError>
     ensures list { IfOk result (λ list. list ≡ shipped_row_tests) }
     ensures tests { IfOk result (λ list. AreTests list) }
