@@ -4,7 +4,7 @@ With SQLite (the program sqlite3) and with PostgreSQL (initdb and psql; a server
 what clio wrote by the SQL of tools/clio-tables, with and without types, reads the tables back, and tries that keys and foreign keys hold there
 and refuse a row that breaks them. So it does with texts that databases read otherwise than clio. With PostgreSQL it also runs the scripts, in both modes, as tools/clio-script-to-postgres turns them,
 puts in the place of each null what out/fold.csv says, and compares the rows with clio's. With both it makes the target by tools/clio-sql, and compares
-rows, nulls and fold. Then it runs dev/check-docs with the server, for the commands of the manual that need one. What is missing is left out, and said.
+rows, nulls and fold. In both it loads the shop by tools/clio-load, again and again. Then it runs dev/check-docs with the server, for the commands of the manual that need one. What is missing is left out, and said.
 """
 import collections
 import json
@@ -23,6 +23,7 @@ PROGRAM = subprocess.run([TOP / "dev/program"], stdout=subprocess.PIPE, text=Tru
 
 from clio_tools import csv as clio_csv
 from clio_tools import sql_types
+from loads import try_postgres, try_sqlite
 from servers import Differs, LeftOut, Postgres, Sqlite, Written, output, parsed, rows_of, tool
 from clio_tools.draft.names import shown
 from forked import ended
@@ -227,7 +228,12 @@ def main():
                 except Differs as why:
                     print(f"tools: {example.parent.parent.name}/{example.parent.name}: {why}", flush=True)
                     failed = 1
+            if sqlite:
+                try_sqlite(top / "loads-sqlite")
+                counts["lives of a loaded shop"] += 1
             if postgres:
+                try_postgres(top / "loads-postgres", postgres)
+                counts["lives of a loaded shop"] += 1
                 try_draft(postgres, top)
                 counts["schemas drafted from PostgreSQL"] += 1
                 try_shop(postgres, top)
