@@ -107,6 +107,20 @@ class OnSqlite(Hostile):
         self.source("id,x", "1,a\n01,a\n")
         self.refused("clio-load", *self.words, "--dry-run", why="belongs to several rows")
 
+    def test_rounded(self) -> None:
+        """A number that its column would round is listed; one that is kept is loaded, and is equal then."""
+        self.run_sql("CREATE TABLE t (id INTEGER PRIMARY KEY, x REAL, p DECIMAL(30,2))")
+        self.source("id,x,p", "1,9007199254740993,1\n2,1e400,1\n3,1,12345678901234567890.12\n")
+        status, _, said = self.tool("clio-load", *self.words)
+        self.assertEqual(status, 2)
+        for part in ('record 1: column x is "9007199254740993", which t can\'t hold unchanged as REAL',
+                     'record 2: column x is "1e400",', 'record 3: column p is "12345678901234567890.12",',
+                     "3 misfits"):
+            self.assertIn(part, said)
+        self.source("id,x,p", "1,9007199254740992,9007199254740993\n2,0.30000000000000004,0.5\n")
+        for count in "2 inserted, 0 changed, 0 deleted, 0 equal", "0 inserted, 0 changed, 0 deleted, 2 equal":
+            self.assertIn(count, self.printed("clio-load", *self.words))
+
     def test_a_key_that_is_not_unique(self) -> None:
         """A row of somebody else with the key of a row that a load wrote stays."""
         self.run_sql("CREATE TABLE t (no INTEGER, x TEXT)")
@@ -224,7 +238,9 @@ class OnPostgres(Hostile):
         self.session.run("CREATE DOMAIN price AS numeric(5,2); CREATE DOMAIN code AS varchar(3)")
         for kind, right, wrong in [
                 ("price", "1.20", "1.239"), ("code", "abc", "abc "), ("bit(3)", "101", "10101"),
-                ("bit varying(3)", "101", "10101"), ("timestamp(0)", "2020-01-01 10:00:00", "2020-01-01 10:00:00.7"),
+                ("bit varying(3)", "101", "10101"), ("real", "1.5", "16777217"),
+                ("double precision", "0.30000000000000004", "9007199254740993"), ("money", "1.5", "1.505"),
+                ("timestamp(0)", "2020-01-01 10:00:00", "2020-01-01 10:00:00.7"),
                 ("time(0)", "10:00:00", "10:00:00.7"), ("date", "2020-01-01", "today"), ("interval(0)", "1 s", "1.7 s"),
                 ("timestamptz", "2020-01-01 10:00:00+00", "now"), ("time", "10:00:00", "NOW")]:
             with self.subTest(kind=kind):

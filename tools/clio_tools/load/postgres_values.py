@@ -17,6 +17,8 @@ from clio_tools.program import Refused
 SIZED = re.compile(r"(character varying|character)\((\d+)\)")
 SCALED = re.compile(r"numeric\(\d+,(\d+)\)")
 TIMED = re.compile(r"((?:timestamp|time|interval)[^(]*)\(\d\)(.*)")  # of so many places behind the point
+FLOATS = {"real": 6, "double precision": 15}  # so many digits are kept in any case
+ROUNDED = *FLOATS, "money"  # types that round a number
 BITS = re.compile(r"bit( varying)?\(\d+\)")
 MOVING = "now|today|tomorrow|yesterday"  # words of which dates and times are made, another one each time
 MOVING_WORDS = re.compile(MOVING.encode(), re.IGNORECASE)
@@ -28,6 +30,9 @@ def altered(cell: str, column: Column) -> str | None:
         return f"char_length({cell}) > {size[2]}"
     if column.base.startswith("numeric("):
         return f"({cell})::numeric <> ({cell})::{column.base}"
+    if column.base in ROUNDED:
+        kept = f"({cell})::{column.base}::{'numeric' if column.base == 'money' else 'text::numeric'}"
+        return f"CASE WHEN ({cell}) ~ '^[-+.0-9eE]*$' THEN ({cell})::numeric <> {kept} END"
     if BITS.fullmatch(column.base):
         return f"({cell})::bit varying <> ({cell})::{column.base}::bit varying"
     if not is_of_time(column):
@@ -64,6 +69,8 @@ def plain(column: Column) -> re.Pattern[str] | None:
         return re.compile(f".{{0,{size[2]}}}", re.DOTALL)
     if TIMED.fullmatch(column.base):
         return re.compile("[^.]*", re.DOTALL)
+    if column.base in ROUNDED:
+        return re.compile(f"-?[0-9.]{{0,{FLOATS[column.base]}}}" if column.base in FLOATS else "-?[0-9]*")
     if scale := SCALED.fullmatch(column.base):
         return re.compile(f"(-?[0-9]+(\\.[0-9]{{0,{scale[1]}}})?)?")
     return re.compile(".{0,10}", re.DOTALL) if column.kind == DATE else None

@@ -12,7 +12,7 @@ from clio_tools.draft import model, sqlite
 from clio_tools.load.catalog import DATE, INTEGER, NUMBER, OTHER, TEXT, TIME, Catalog, Column, ForeignKey, Table
 from clio_tools.load.database import Cells, Database, DoesNotFit, Misfit, Options, identifier, literal
 from clio_tools.load.plan import Plan, TablePlan
-from clio_tools.load.sqlite_values import FITS, affinity, checked, kind_of, maker, text_of
+from clio_tools.load.sqlite_values import FITS, ROUNDED, affinity, checked, kind_of, maker, text_of
 from clio_tools.program import Refused, stop_by_exception
 
 CACHE = 65536  # KiB of the file, and of work tables, that are held in memory
@@ -189,7 +189,8 @@ class Sqlite(Database):
         return bool(tests) and self.value(f"SELECT 1 FROM {plan.work('new')} WHERE {tests} LIMIT 1") is not None
 
     def misfits(self, plan: TablePlan, options: Options) -> list[Misfit]:
-        found = [Misfit(int(str(record)), column, text, why) for place, column, test, why in self.tests(plan)
+        found = [Misfit(int(str(record)), column, text and text.removesuffix(ROUNDED), why)
+                 for place, column, test, why in self.tests(plan)
                  for record, text in self.stream(f"SELECT _rowid_, c{place} FROM {plan.work('new')} WHERE {test}")]
         return sorted(found, key=lambda one: one.record)
 

@@ -1,6 +1,7 @@
 """What SQLite's types make of texts."""
 from __future__ import annotations
 
+import decimal
 import pathlib
 import re
 from collections.abc import Callable, Iterator
@@ -17,6 +18,8 @@ DECLARED = [(INTEGER, "INT"), (TEXT, "CHAR|CLOB|TEXT"), (OTHER, "BLOB|^$|ANY|JSO
 FITS = {INTEGER: "typeof({0}) = 'integer'", NUMBER: "typeof({0}) IN ('integer', 'real')",
         BOOLEAN: "typeof({0}) = 'integer'",
         DATE: "date({0}) IS NOT NULL", TIME: "coalesce(date(substr({0}, 1, 10)), time(substr({0}, 1, 5))) IS NOT NULL"}
+
+ROUNDED = " is rounded"  # behind a number that a column would round, so that it is no number
 
 Value = str | int | None
 Made = Callable[[str], Value]
@@ -58,7 +61,24 @@ def maker(column: Column, options: Options) -> Made:
         found = text(cell)
         return WORDS.get(found.lower(), found) if isinstance(found, str) else None
 
-    return boolean if column.kind == BOOLEAN else text
+    def number(cell: str) -> Value:
+        found = text(cell)
+        return f"{found}{ROUNDED}" if isinstance(found, str) and is_rounded(found, column) else found
+
+    return {BOOLEAN: boolean, NUMBER: number}.get(column.kind, text)
+
+
+def is_rounded(text: str, column: Column) -> bool:
+    """Whether a number would be rounded in a column, which keeps 15 digits in any case."""
+    if len(text) <= 15 and "e" not in text.lower():
+        return False
+    try:
+        exact = decimal.Decimal(text)
+        if affinity(column) == "NUMERIC" and abs(exact) < 1 << 63 and exact == int(exact):
+            return False
+        return exact != decimal.Decimal(repr(float(text)))
+    except (ValueError, ArithmeticError):
+        return False  # it is no number
 
 
 def checked(path: pathlib.Path, plan: TablePlan) -> Iterator[list[str]]:
