@@ -48,7 +48,6 @@ class Change:
                 self.check_written(plan, self.database.run(self.mark(plan)), counts.marked)
         for plan in self.plan.tables:
             self.keep_record(plan)
-            self.database.set_sequences(plan)
 
     def fill_directly(self, plan: TablePlan) -> None:
         """Puts a file into an empty table; only then it is known how many rows there are."""

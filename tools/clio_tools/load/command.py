@@ -49,6 +49,12 @@ of each. The status is 1 if the database differs from the target, and else 0. Ro
 difference too, unless `--others` says that rows which no load wrote are right. `--diff FILE` writes all differences as
 CSV, with or without `--dry-run`: NULL is ? there, and a text that begins with ? has one more.
 
+`--try` is a dry run that finds what the database itself refuses, as by a CHECK, a unique index or a trigger: it does
+the whole load, to its end, and takes it back. So it needs the rights of a load and holds its locks, as a dry run
+doesn't. The status is 2 if something is refused. Triggers run and are taken back too, but not what they do outside the
+database, nor the numbers that they, or defaults, take from sequences of other owners. It also prints the rows that the
+database stores otherwise than they are written.
+
 `--log TABLE` adds a row to a table, which is made if it isn't there: when, which mapping and sources (SHA-256),
 options, and how many rows of each table.
 
@@ -104,6 +110,7 @@ def asked(words: list[str]) -> argparse.Namespace:
         parser.error("--out and --summary go together")
     if not 1 <= given.wait <= 86400:
         parser.error("--wait takes a number of seconds from 1 to 86400")
+    given.dry_run |= given.trial
     if given.identity and given.ids is None:
         parser.error("--identity needs --ids: the crosswalk keeps the numbers that the database gives")
     return given
@@ -128,6 +135,7 @@ def add_options(parser: argparse.ArgumentParser) -> None:
     add("--out", metavar="FOLDER", help="take the files of an exchange that was run before")
     add("--summary", metavar="FILE", help="what that exchange printed")
     add("--dry-run", action="store_true", help="change nothing, and print what differs")
+    add("--try", dest="trial", action="store_true", help="a dry run that does the whole load, and takes it back")
     add("--others", action="store_true", help="rows that no load wrote are no difference")
     add("--diff", metavar="FILE", help="write all that differs as CSV")
     add("--adopt", action="store_true", help="rows that no load wrote are the things whose numbers they have")

@@ -82,6 +82,19 @@ class Comparison:
             run(f"{self.extra(plan)} LIMIT 0")
         self.check_own(plan)
 
+    def count_altered(self, plan: TablePlan) -> int:
+        """Compares a table once more, when all is written; answers how many rows are not as they were written."""
+        counts, run = self.counts[plan.number], self.database.run
+        if not counts.inserted and not counts.changed:
+            return 0
+        for kind in "diff", "here":
+            run(f"DROP TABLE IF EXISTS {plan.work(kind)}")
+        plan.is_empty = False
+        if plan.key is None:
+            run(self.numbered_rows(plan))
+        run(self.diff(plan))
+        return self.database.count(f"SELECT count(*) FROM {plan.work('diff')}")
+
     def check_pairs(self, plan: TablePlan, key: list[int]) -> None:
         """Refuses rows of the target that are one row of the table, as those with 1 and 01 in a column of numbers, and
         rows of the table that are one of the target."""

@@ -24,6 +24,10 @@ class DoesNotFit(Refused):
     """The database refuses a value, or it would be altered."""
 
 
+class TakenBack(Exception):
+    """What was tried is undone."""
+
+
 class NotDirect(Exception):
     """A file can't go into its table itself after all."""
 
@@ -66,6 +70,10 @@ class Database(abc.ABC):
     def transaction(self, plan: Plan, is_dry: bool) -> contextlib.AbstractContextManager[None]:
         """What is done within is done whole, or not at all; nobody else changes these tables meanwhile. A dry one
         changes nothing."""
+
+    @abc.abstractmethod
+    def trial(self, plan: Plan) -> contextlib.AbstractContextManager[None]:
+        """What is done within is done as in a transaction, with what the database checks at its end, and undone."""
 
     @abc.abstractmethod
     def fill(self, plan: TablePlan, path: pathlib.Path, options: Options) -> int:

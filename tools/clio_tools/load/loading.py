@@ -33,6 +33,7 @@ class Load:
         self.database, self.plan, self.space, self.crosswalk = database, plan, space, crosswalk
         self.options, self.gone, self.given, self.tell = options, gone, given, tell
         self.is_dry: bool = given.dry_run
+        self.altered: list[str] = []  # of a trial: what the database stores otherwise than it is written
         self.may_be_direct = not (self.is_dry or given.diff or given.identity)
         self.identity = Identity(database, plan, space.mapping.target,
                                  crosswalk) if given.identity and crosswalk else None
@@ -51,12 +52,15 @@ class Load:
             print(harmless(said_of(plan, comparison.counts[plan.number], self.is_dry)))
             if self.is_dry:
                 print("".join(harmless(line) + "\n" for line in self.samples[plan.number]), end="")
+        for line in self.altered:
+            print(harmless(line))
         return int(self.is_dry and self.differs(comparison))
 
     def done(self) -> Comparison:
         """Compares and writes; what was found."""
         try:
-            with self.database.transaction(self.plan, self.is_dry):
+            with (self.database.trial(self.plan) if self.given.trial else
+                  self.database.transaction(self.plan, self.is_dry)):
                 comparison = self.compared()
                 self.write(comparison)
         except NotDirect:
@@ -147,13 +151,13 @@ class Load:
             raise Refused(f"{lines[-1]}\nclio-load: {counted(len(lines), 'misfit')}; nothing is changed")
 
     def write(self, comparison: Comparison) -> None:
-        """Writes what differs, unless it is a dry run."""
+        """Writes what differs, unless it is a dry run without a trial."""
         differences = Differences(comparison)
         if self.is_dry:
             self.samples = {plan.number: list(differences.samples(plan)) for plan in self.plan.tables}
         if self.given.diff:
             differences.write(self.given.diff)
-        if self.is_dry:
+        if self.is_dry and not self.given.trial:
             return
         self.check_referred(comparison)
         self.check_numbers(comparison)
@@ -161,6 +165,11 @@ class Load:
         Change(comparison, self.tell, self.fill_directly, self.given.adopt).write()
         if self.given.log:
             self.log(comparison)
+        if self.is_dry:
+            self.altered = list(differences.altered())
+            return
+        for plan in self.plan.tables:
+            self.database.set_sequences(plan)
         if self.crosswalk is not None:
             if self.identity is not None:
                 self.identity.keep()

@@ -12,7 +12,7 @@ from clio_tools.databases.postgres import DatabaseError, Session, identifier, pi
 from clio_tools.draft import model, postgres
 from clio_tools.load.catalog import (BOOLEAN, DATE, INTEGER, NUMBER, OTHER, TEXT, TIME, Catalog, Column, ForeignKey,
                                      Table)
-from clio_tools.load.database import Cells, Database, Misfit, Options, literal
+from clio_tools.load.database import Cells, Database, Misfit, Options, TakenBack, literal
 from clio_tools.load.postgres_values import altered, plain_pieces, value_of, without_zero
 from clio_tools.load.plan import Plan, TablePlan
 from clio_tools.program import Refused
@@ -53,6 +53,11 @@ FOREIGN_KEYS = f"""SELECT s.nspname, c.relname, {NAMES.format('r.conkey', 'r.con
  s.oid = c.relnamespace
  JOIN pg_catalog.pg_class p ON p.oid = r.confrelid JOIN pg_catalog.pg_namespace n ON n.oid = p.relnamespace
  WHERE r.contype = 'f' AND r.conparentid = 0 AND n.nspname = %s ORDER BY 1, 2, r.conname"""
+SEQUENCES = """SELECT s.oid::regclass, q.seqincrement FROM pg_class s JOIN pg_sequence q ON q.seqrelid = s.oid
+ WHERE pg_has_role(s.relowner, 'USAGE') AND s.oid IN (SELECT d.objid FROM pg_depend d WHERE d.refobjid = {0}::regclass
+  AND d.classid = 'pg_class'::regclass AND d.refclassid = d.classid UNION SELECT d.refobjid FROM pg_depend d
+  JOIN pg_attrdef f ON f.oid = d.objid WHERE d.classid = 'pg_attrdef'::regclass AND d.refclassid = 'pg_class'::regclass
+  AND f.adrelid = {0}::regclass)"""  # those that number the columns of a table
 RECORD = """SELECT c.relkind = 'r' AND NOT c.relhasrules AND NOT c.relhastriggers,
  (SELECT pg_catalog.string_agg(a.attname, ', ' ORDER BY a.attnum) FROM pg_catalog.pg_attribute a
   WHERE a.attrelid = c.oid AND a.attnum > 0 AND NOT a.attisdropped)
@@ -134,6 +139,16 @@ class Postgres(Database):
                 raise Refused(f"{error.cause}: somebody else uses these tables; nothing is changed, try again") \
                     from None
             raise
+
+    @contextlib.contextmanager
+    def trial(self, plan: Plan) -> Iterator[None]:
+        with contextlib.suppress(TakenBack), self.transaction(plan, False):
+            for one in plan.tables:  # a sequence that is altered in a transaction gives its numbers within it alone
+                for name, step in self.rows(SEQUENCES.format(literal(one.table.sql))):
+                    self.run(f"ALTER SEQUENCE {name} INCREMENT BY {step}")
+            yield
+            self.run("SET CONSTRAINTS ALL IMMEDIATE")
+            raise TakenBack
 
     def fill(self, plan: TablePlan, path: pathlib.Path, options: Options) -> int:
         columns = plan.set.columns

@@ -1,6 +1,7 @@
 """SQLite, by Python's own module, in one transaction."""
 from __future__ import annotations
 
+import collections
 import contextlib
 import os
 import pathlib
@@ -10,7 +11,8 @@ from collections.abc import Iterable, Iterator
 
 from clio_tools.draft import model, sqlite
 from clio_tools.load.catalog import DATE, INTEGER, NUMBER, OTHER, TEXT, TIME, Catalog, Column, ForeignKey, Table
-from clio_tools.load.database import Cells, Database, DoesNotFit, Misfit, Options, identifier, literal
+from clio_tools.load.database import (Cells, Database, DoesNotFit, Misfit, Options, TakenBack, identifier,
+                                      literal)
 from clio_tools.load.plan import Plan, TablePlan
 from clio_tools.load.sqlite_values import FITS, ROUNDED, affinity, checked, kind_of, maker, text_of
 from clio_tools.program import Refused, stop_by_exception
@@ -137,6 +139,24 @@ class Sqlite(Database):
             raise Refused(f"{self.path}: a row would refer to no row; nothing is changed") from None
         except sqlite3.Error as error:
             raise Refused(f"{self.path}: SQLite: {error}; nothing is changed") from None
+
+    @contextlib.contextmanager
+    def trial(self, plan: Plan) -> Iterator[None]:
+        with contextlib.suppress(TakenBack), self.transaction(plan, False):
+            before = self.dangling(plan)
+            yield
+            for table, row, parent, _ in self.dangling(plan) - before:
+                raise Refused(f"{self.path}: row {row} of {table} would refer to no row of {parent}; nothing is"
+                              " changed")
+            raise TakenBack
+
+    def dangling(self, plan: Plan) -> collections.Counter[tuple[object, ...]]:
+        """The rows that refer to nothing, in the loaded tables and in those that refer to them."""
+        tables = {one.table.sql for one in plan.tables}
+        tables |= {key.child for key in plan.foreign_keys if key.parent in tables}
+        with self.told():
+            return collections.Counter(row for table in sorted(tables) for row in self.base.execute(
+                f"PRAGMA main.foreign_key_check({table.removeprefix('main.')})"))
 
     def fill(self, plan: TablePlan, path: pathlib.Path, options: Options) -> int:
         cells = ", ".join(f"c{place} {affinity(column)}" for place, column in enumerate(plan.loaded))

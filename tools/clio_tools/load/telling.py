@@ -61,6 +61,20 @@ class Differences:
             if count > len(shown_rows):
                 yield f"  and {count - len(shown_rows)} more"
 
+    def altered(self) -> Iterator[str]:
+        """Once all is written, some rows that the database stores otherwise, as by a trigger, as lines."""
+        for plan in self.comparison.plan.tables:
+            count = self.comparison.count_altered(plan)
+            name = shown_name(plan.table.name)
+            lines = [f"{name} {key}: " + ", ".join(f"{shown_name(column)} {quoted(after)} would be stored as "
+                                                   f"{quoted(before)}" for column, before, after in cells)
+                     for _, key, cells in (self.changed(plan, SAMPLES) if count else ())]
+            lines += [f"{name} {key} would not be stored as it is written"
+                      for _, key, _ in (self.inserted(plan, SAMPLES - len(lines)) if count else ())]
+            yield from lines
+            if count > len(lines):
+                yield f"{name}: {count - len(lines)} more would be stored otherwise"
+
     @staticmethod
     def pair(change: str, before: str | None, after: str | None) -> str:
         """A cell in a sample."""
