@@ -23,7 +23,7 @@ use Rattle.clio_source.specs.declared.fault.SourceRefusal.TheVariants as refusal
 use Rattle.clio_source.specs.Source.{IsStored, ReadState, as_facts, fact_cells}
 use Rattle.clio_source.proofs.Fits.{cells_of_rows, shown_widths}
 use Rattle.clio_source.proofs.Numbers.{facts_of_one, still_fit}
-use Rattle.clio_given.specs.declared.reading.Reading.{Reading}
+use Rattle.clio_source.specs.declared.reading.Reading.{Reading}
 use Rattle.clio_given.specs.Given.{SayRows, given_name, given_loading, none_read, too_many_given_cells, with_given_facts}
 use Rattle.clio_given.specs.Reading.{GivenIsNotRead, GivenReadFits, read_of}
 

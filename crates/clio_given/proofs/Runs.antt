@@ -23,7 +23,7 @@ use Rattle.clio_source.specs.declared.fault.SourceRefusal.TheVariants as refusal
 use Rattle.clio_source.specs.Source.{IsStored, ReadState, fetching, too_many_bytes}
 use Rattle.clio_source.proofs.Roots.{names_differ}
 use Rattle.clio_source.proofs.Runs.{its_file}
-use Rattle.clio_given.specs.declared.reading.Reading.{Reading}
+use Rattle.clio_source.specs.declared.reading.Reading.{Reading}
 use Rattle.clio_given.specs.Given.{TargetRequest, given_files_stages, given_name, given_stages, given_loading, none_read, given_reading, given_storing}
 use Rattle.clio_given.specs.Reading.{read_of}
 

@@ -13,7 +13,7 @@ use Rattle.clio_source.specs.declared.fault.RowsFault.{RowsFault}
 use Rattle.clio_source.specs.declared.fault.SourceRefusal.{SourceRefusal}
 use Rattle.clio_source.specs.declared.fault.SourceRefusal.TheVariants as refusals
 use Rattle.clio_source.specs.Source.{ReadState}
-use Rattle.clio_given.specs.declared.reading.Reading.{Reading}
+use Rattle.clio_source.specs.declared.reading.Reading.{Reading}
 use Rattle.clio_given.specs.declared.values.NoValues.{NoValues}
 use Rattle.clio_given.specs.declared.values.NoValues.TheVariants as no_values
 use Rattle.clio_given.specs.Given.{AreValuesOf, IsGivenRowsFault, IsFirstNoRow}

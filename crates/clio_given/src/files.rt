@@ -2,30 +2,18 @@
 ghost use Rattle.std.specs.Prelude.{◌≡◌, ◌+◌, ◌<◌, ◌≤◌, length, IfOk};
 ghost use Rattle.dx_stages.specs.Running.{Ran};
 ghost use Rattle.dx_schema.specs.Tables.{tables_of};
-ghost use Rattle.clio_source.specs.Source.{too_many_bytes};
 ghost use Rattle.clio_given.specs.Given.{given_files_stages, given_stages, none_read, given_reading};
 ghost use Rattle.clio_given.specs.Reading.{GivenReadFits, read_of, shown_result};
 
 use crate::names::given_name;
-use crate::reading::{Reading, at_start, load_given};
-use clio_source::{RowsFault, SourceRefusal};
-use dx_base::limits::{DATA_BYTES, TABLES};
-use dx_base::{Count, Limit};
+use crate::reading::{at_start, load_given};
+use clio_source::{Reading, RowsFault, SourceRefusal, too_many_bytes};
+use dx_base::limits::TABLES;
 use dx_instance::Instance;
 use dx_ports::Inputs;
 use dx_schema::Schema;
 use dx_stages::{Stop, fetch};
 use std::alloc::Global;
-
-// The files have too many bytes.
-fn too_many_bytes() -> SourceRefusal
-    ensures { result ≡ too_many_bytes }
-{
-    SourceRefusal::Limit(Limit {
-        what: Count::DataBytes,
-        number: DATA_BYTES,
-    })
-}
 
 // Reads a table's file, after what was read before it.
 fn read_table<I: Inputs>(

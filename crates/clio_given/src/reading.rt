@@ -1,5 +1,5 @@
 // What was read so far of the given files, and one table more.
-ghost use Rattle.std.specs.Prelude.{◌≡◌, ◌+◌, ◌*◌, ◌-◌, ◌≤◌, ◌<◌, length, map, IfOk, IfErr, MatchOption};
+ghost use Rattle.std.specs.Prelude.{◌≡◌, ◌+◌, ◌<◌, length, map, IfOk, IfErr};
 ghost use Rattle.dx_base.specs.Members.{Each};
 ghost use Rattle.dx_stages.specs.Running.{Gives};
 ghost use Rattle.dx_schema.specs.Forest.{Forest};
@@ -10,7 +10,7 @@ ghost use Rattle.clio_given.specs.Given.{SayRows, given_name, given_loading, non
 ghost use Rattle.clio_given.specs.Reading.{GivenIsNotRead, GivenReadFits, read_of, shown_result};
 
 use crate::values::{NoValues, rows_of};
-use clio_source::{RowsFault, SourceRefusal};
+use clio_source::{Reading, RowsFault, SourceRefusal, cells_after};
 use dx_base::limits::GIVEN_CELLS;
 use dx_base::{Count, Limit, Text};
 use dx_csv::{RowFault, load_table};
@@ -18,15 +18,6 @@ use dx_instance::{Gathered, Rows};
 use dx_schema::Schema;
 use dx_stages::Stop;
 use std::alloc::Global;
-
-/// The rows of the tables that were come to, as numbers of symbols, and how many bytes and cells may still come.
-#[derive(Drop)]
-pub(crate) struct Reading {
-    pub symbols: Gathered,
-    pub tables: Vec<Rows>,
-    pub bytes_left: u64,
-    pub cells_left: u64,
-}
 
 /// Nothing was read, and so many bytes may come.
 pub(crate) fn at_start(alloc: Global, bytes_left: u64) -> Reading
@@ -83,14 +74,6 @@ fn rows_of_bytes(
         }
         Err(NoValues::Memory) => Err(Stop::Memory),
     }
-}
-
-// What is left of so many cells after these rows, unless they have more.
-fn cells_after(left: u64, rows: u32, width: u32) -> Option<u64>
-    ensures { MatchOption result (left < rows * width) (λ rest. (rest ≡ left - rows * width) × (rows * width ≤ left)) }
-{
-    let cells = u64::from(rows).checked_mul(u64::from(width))?;
-    left.checked_sub(cells)
 }
 
 /// Reads a table from the bytes of its file, after what was read before it.

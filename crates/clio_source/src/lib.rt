@@ -27,3 +27,4 @@ pub use laws::{
     roots_have_no_parent,
 };
 pub use names::{file_name, json_file_name};
+pub use reading::{Reading, cells_after, too_many_bytes};

@@ -1,5 +1,5 @@
 // What was read so far.
-ghost use Rattle.std.specs.Prelude.{◌≡◌};
+ghost use Rattle.std.specs.Prelude.{◌≡◌, ◌*◌, ◌-◌, ◌≤◌, ◌<◌, MatchOption};
 ghost use Rattle.dx_schema.specs.Forest.{Forest};
 ghost use Rattle.dx_used.specs.Used.{Marks};
 ghost use Rattle.clio_source.specs.Source.{at_start, too_many_bytes, too_many_cells};
@@ -14,7 +14,7 @@ use std::alloc::Global;
 
 /// The rows of the tables that were come to, as numbers of symbols, and how many bytes and cells may still come.
 #[derive(Drop)]
-pub(crate) struct Reading {
+pub struct Reading {
     pub symbols: Gathered,
     pub tables: Vec<Rows>,
     pub bytes_left: u64,
@@ -35,8 +35,16 @@ pub(crate) fn at_start(alloc: Global) -> Reading
     }
 }
 
+/// What is left of so many cells after these rows, unless they have more.
+pub fn cells_after(left: u64, rows: u32, width: u32) -> Option<u64>
+    ensures { MatchOption result (left < rows * width) (λ rest. (rest ≡ left - rows * width) × (rows * width ≤ left)) }
+{
+    let cells = u64::from(rows).checked_mul(u64::from(width))?;
+    left.checked_sub(cells)
+}
+
 /// The files have too many bytes.
-pub(crate) fn too_many_bytes() -> SourceRefusal
+pub fn too_many_bytes() -> SourceRefusal
     ensures { result ≡ too_many_bytes }
 {
     SourceRefusal::Limit(Limit {

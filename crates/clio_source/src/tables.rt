@@ -1,5 +1,5 @@
 // A flat root: its file is a table.
-ghost use Rattle.std.specs.Prelude.{◌≡◌, ◌+◌, ◌*◌, ◌-◌, ◌≤◌, ◌<◌, length, IfOk, IfErr, MatchOption};
+ghost use Rattle.std.specs.Prelude.{◌≡◌, ◌+◌, ◌<◌, length, IfOk, IfErr};
 ghost use Rattle.dx_base.specs.Members.{Each};
 ghost use Rattle.dx_schema.specs.Tables.{schema_table, tables_of};
 ghost use Rattle.dx_instance.specs.Numbers.{Extends};
@@ -11,7 +11,7 @@ ghost use Rattle.clio_source.specs.Source.{ReadState, flat, loading, named_by};
 ghost use Rattle.clio_source.specs.Fitting.{GivesTo, Holds, UnusedAreBlank, NotRead, ReadFits, rows_shown};
 
 use crate::fault::{RowsFault, SourceRefusal};
-use crate::reading::{Reading, too_many_cells};
+use crate::reading::{Reading, cells_after, too_many_cells};
 use dx_base::{Items, Text};
 use dx_csv::{RowFault, load_into};
 use dx_instance::{Gathered, Rows};
@@ -55,14 +55,6 @@ fn rows_of_bytes(
         })),
         Err(RowFault::Memory) => Err(Stop::Memory),
     }
-}
-
-// What is left of so many cells after these rows, unless they have more.
-fn cells_after(left: u64, rows: u32, width: u32) -> Option<u64>
-    ensures { MatchOption result (left < rows * width) (λ rest. (rest ≡ left - rows * width) × (rows * width ≤ left)) }
-{
-    let cells = u64::from(rows).checked_mul(u64::from(width))?;
-    left.checked_sub(cells)
 }
 
 /// Reads a flat root from the bytes of its table, after what was read before it. Of columns that are not used nothing is

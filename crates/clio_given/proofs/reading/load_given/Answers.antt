@@ -3,7 +3,7 @@ use Rattle.dx_instance.specs.Shown.{shown_row}
 use Rattle.dx_stages.specs.declared.stop.Stop.TheVariants as stops
 use Rattle.dx_stages.specs.Running.{Gives}
 use Rattle.clio_source.specs.declared.fault.SourceRefusal.{SourceRefusal}
-use Rattle.clio_given.specs.declared.reading.Reading.{Reading}
+use Rattle.clio_source.specs.declared.reading.Reading.{Reading}
 use Rattle.clio_given.specs.Given.{given_loading}
 use Rattle.clio_given.specs.Reading.{read_of}
 use Rattle.clio_given.proofs.Fits.{cells_are, fit_more, loaded, no_cells_left}
