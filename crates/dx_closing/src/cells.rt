@@ -6,7 +6,7 @@ ghost use Rattle.dx_model.specs.Tables.{AreWithin};
 ghost use Rattle.dx_logical.specs.Filled.{row_with_fresh, fresh_below, given_item};
 ghost use Rattle.dx_closing.specs.Closing.{has_cells, cells_are_one};
 
-use dx_model::Cell;
+use dx_model::{Cell, copy_cell};
 use std::alloc::{AllocError, Global};
 
 /// Whether two cells are one.
@@ -18,17 +18,6 @@ fn is_same_cell(a: &Cell, b: &Cell) -> bool
         (Cell::Ex(v), Cell::Ex(w)) => *v == *w,
         (Cell::Lit(s), Cell::Lit(t)) => *s == *t,
         _ => false,
-    }
-}
-
-/// A copy of a cell.
-fn copy_cell(cell: &Cell) -> Result<Cell, AllocError>
-    ensures { IfOk result (λ c. c ≡ cell.now) }
-{
-    match cell {
-        Cell::Var(x) => Ok(Cell::Var(*x)),
-        Cell::Ex(v) => Ok(Cell::Ex(*v)),
-        Cell::Lit(text) => Ok(Cell::Lit(text.copy()?)),
     }
 }
 

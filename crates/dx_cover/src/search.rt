@@ -7,13 +7,13 @@ ghost use Rattle.dx_model.specs.Fitting.{AgreeInWidths, IsRule};
 ghost use Rattle.dx_cover.specs.Search.{AreAllSeen, MeetInWidths, found_after, has_met_in, maps_under, agrees_with_one};
 ghost use Rattle.dx_cover.specs.States.{IsSearch, IsTrueFor, last, same_state, state_of};
 
-use crate::cells::{copy_cell, is_same_cell};
+use crate::cells::is_same_cell;
 use crate::partners::have_partners;
 use crate::problem::Problem;
 use crate::states::{Search, State, is_known, make_state, remember};
 use crate::variables::{existentials, exported};
 use dx_base::Items;
-use dx_model::{Atom, Cell, CellMap, Meeting, Rule};
+use dx_model::{Atom, Cell, CellMap, Meeting, Rule, copy_cell};
 use std::alloc::{AllocError, Global};
 
 /// Whether a cell may meet another.
@@ -77,18 +77,17 @@ pub(crate) fn is_seen(found: &[CellMap], map: &CellMap) -> bool
 }
 
 // The meeting of two cells.
-fn meeting_of(alloc: Global, cell: &Cell, met: &Cell) -> Result<Meeting, AllocError>
+fn meeting_of(cell: &Cell, met: &Cell) -> Result<Meeting, AllocError>
     ensures { IfOk result (λ m. m ≡ record { cell = cell.now; met = met.now }) }
 {
     Ok(Meeting {
-        cell: copy_cell(alloc, cell)?,
-        met: copy_cell(alloc, met)?,
+        cell: copy_cell(cell)?,
+        met: copy_cell(met)?,
     })
 }
 
 /// Adds the meetings of two rows of cells.
 pub(crate) fn add_meetings(
-    alloc: Global,
     bound: &mut Vec<Meeting>,
     cells: &[Cell],
     others: &[Cell],
@@ -97,25 +96,21 @@ pub(crate) fn add_meetings(
     ensures { OnOk result (bound.new.items ≡ bound.old.items ++ meet cells.now others.now) }
 {
     for i in 0..cells.len() {
-        bound.push(meeting_of(alloc, &cells[i], &others[i])?)?;
+        bound.push(meeting_of(&cells[i], &others[i])?)?;
     }
     Ok(())
 }
 
 /// The cell that a cell meets first.
-pub(crate) fn met_first(
-    alloc: Global,
-    cell: &Cell,
-    meetings: &[Meeting],
-) -> Result<Cell, AllocError>
+pub(crate) fn met_first(cell: &Cell, meetings: &[Meeting]) -> Result<Cell, AllocError>
     ensures { IfOk result (λ c. c ≡ first_met cell.now meetings.now) }
 {
     for meeting in meetings {
         if is_same_cell(cell, &meeting.cell) {
-            return copy_cell(alloc, &meeting.met);
+            return copy_cell(&meeting.met);
         }
     }
-    copy_cell(alloc, cell)
+    copy_cell(cell)
 }
 
 /// What the variables meet first.
@@ -128,7 +123,7 @@ pub(crate) fn images(
 {
     let mut images = Vec::new(alloc);
     for variable in variables {
-        images.push(met_first(alloc, &Cell::Var(*variable), meetings)?)?;
+        images.push(met_first(&Cell::Var(*variable), meetings)?)?;
     }
     Ok(images)
 }
@@ -143,7 +138,7 @@ pub(crate) fn existential_images(
 {
     let mut images = Vec::new(alloc);
     for variable in 0..count {
-        images.push(met_first(alloc, &Cell::Ex(variable), meetings)?)?;
+        images.push(met_first(&Cell::Ex(variable), meetings)?)?;
     }
     Ok(images)
 }
@@ -346,7 +341,7 @@ pub(crate) fn extend_by_choice(
     for other in problem.others {
         if first.table == other.table {
             let cells = first.cells.items();
-            add_meetings(alloc, bound, cells, other.cells.items())?;
+            add_meetings(bound, cells, other.cells.items())?;
             any |= extend(alloc, problem, after, bound, search)?;
             bound.truncate(start);
         }

@@ -4,9 +4,9 @@ ghost use Rattle.std.specs.List.{list_any};
 ghost use Rattle.dx_model.specs.Covers.{same_cell};
 ghost use Rattle.dx_cover.specs.States.{counts, remembered, same_meetings, same_state, stands_in, state_of};
 
-use crate::cells::{copy_cell, is_same_cell};
+use crate::cells::is_same_cell;
 use dx_base::Items;
-use dx_model::{Atom, Cell, CellMap, Meeting};
+use dx_model::{Atom, Cell, CellMap, Meeting, copy_cell};
 use std::alloc::{AllocError, Global};
 
 /// How many states are remembered.
@@ -64,8 +64,8 @@ pub(crate) fn make_state(
     let mut meetings = Items::new(alloc);
     for meeting in bound {
         if is_counted(exported, rest, &meeting.cell) {
-            let cell = copy_cell(alloc, &meeting.cell)?;
-            let met = copy_cell(alloc, &meeting.met)?;
+            let cell = copy_cell(&meeting.cell)?;
+            let met = copy_cell(&meeting.met)?;
             meetings.push(Meeting { cell, met })?;
         }
     }

@@ -12,7 +12,7 @@ ghost use Rattle.dx_cover_fold.specs.Found.{AreLeast, AreOfRules, AreOrFirsts, A
 ghost use Rattle.dx_cover_fold.specs.Found.{no_map, or_first as first_or, variable_cells};
 
 use crate::found::Found;
-use crate::images::{as_cells, images_of};
+use crate::images::images_of;
 use crate::index::Index;
 use crate::matched::Matched;
 use crate::number_at::NumberAt;
@@ -20,7 +20,7 @@ use crate::numbers_said::numbers_said;
 use crate::plan::plan_cells;
 use dx_cover::{Covers, exported};
 use dx_instance::Rows;
-use dx_model::{CellMap, Rule};
+use dx_model::{CellMap, Rule, variable_cells};
 use std::alloc::{AllocError, Global};
 
 /// An index of what a cell map gives at the places of a rule: the rule, and the number of the cell map.
@@ -190,7 +190,7 @@ fn own_by(
     ensures { IfOk result (λ v. AllZip (IsPlanned matches.now.symbols (exported_of rule.now) width) (variable_cells rule.now) v.items) }
 {
     let variables = exported(alloc, rule)?;
-    let cells = as_cells(alloc, &variables)?;
+    let cells = variable_cells(alloc, &variables)?;
     plan_cells(alloc, matches, &variables, width, &cells)
 }
 

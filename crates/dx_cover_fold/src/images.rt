@@ -1,23 +1,11 @@
 // The images of exported variables.
 ghost use Rattle.std.specs.Prelude.{◌≡◌, IfOk, map};
-ghost use Rattle.dx_model.specs.declared.rules.Cell.TheVariants.{Var as VarCell};
 ghost use Rattle.dx_model.specs.Covers.{image_of};
 ghost use Rattle.dx_cover_fold.specs.Found.{images_by};
 
 use dx_cover::exported;
-use dx_model::{Cell, CellMap, Rule};
+use dx_model::{Cell, CellMap, Rule, copy_cell};
 use std::alloc::{AllocError, Global};
-
-/// A copy of a cell.
-fn copy_cell(cell: &Cell) -> Result<Cell, AllocError>
-    ensures { IfOk result (λ c. c ≡ cell.now) }
-{
-    match cell {
-        Cell::Var(x) => Ok(Cell::Var(*x)),
-        Cell::Ex(v) => Ok(Cell::Ex(*v)),
-        Cell::Lit(text) => Ok(Cell::Lit(text.copy()?)),
-    }
-}
 
 /// The cell that a list of images gives for a variable of a list.
 fn image_in(variables: &[u32], images: &[Cell], variable: u32) -> Result<Cell, AllocError>
@@ -52,15 +40,4 @@ pub(crate) fn images_of(
 {
     let variables = exported(alloc, rule)?;
     images_in(alloc, &variables, cell_map.exported.items())
-}
-
-/// The variables as cells.
-pub(crate) fn as_cells(alloc: Global, variables: &[u32]) -> Result<Vec<Cell>, AllocError>
-    ensures { IfOk result (λ v. v.items ≡ map VarCell variables.now) }
-{
-    let mut cells = Vec::new(alloc);
-    for variable in variables {
-        cells.push(Cell::Var(*variable))?;
-    }
-    Ok(cells)
 }

@@ -36,7 +36,7 @@ pub use laws::{
 };
 pub use matches::{Matches, Places};
 pub use row::Row;
-pub use rules::{Atom, Cell, Derived, Rule};
+pub use rules::{Atom, Cell, Derived, Rule, copy_cell, variable_cells};
 pub use tables::{Dep, Key, Link};
 pub use tuples::Tuples;
 pub use values::{NullId, Value, copy_value};
