@@ -1,11 +1,11 @@
 // An instance as rows of numbers that compare as their values.
 ghost use Rattle.std.specs.Prelude.{◌≡◌, ◌<◌, IfOk, length, map};
-ghost use Rattle.std.specs.List.{range_with_len};
 ghost use Rattle.dx_model.specs.declared.values.Value.TheVariants.{Const};
 ghost use Rattle.dx_instance.specs.Numbers.{IsOrdering, ValuesAscend};
 ghost use Rattle.dx_instance.specs.Shown.{PartsFit, numbers_of_table, renumbered};
 ghost use Rattle.dx_keys.specs.Numbers.{AreValues, IsNumbering};
 
+use dx_chase::counted;
 use dx_instance::{Instance, Numbers, Ordered, Rows, Symbols, Value};
 use std::alloc::{AllocError, Global};
 
@@ -15,18 +15,6 @@ pub struct Numbering {
     pub symbols: Symbols,
     pub constants: u32,
     pub tables: Vec<Rows>,
-}
-
-/// The numbers below n, ascending.
-#[tactic(auto, using(dx_chase::proofs::Opening::firsts_more))]
-pub fn counted(alloc: Global, n: u32) -> Result<Vec<u32>, AllocError>
-    ensures { IfOk result (λ v. v.items ≡ range_with_len 0 n) }
-{
-    let mut all = Vec::with_capacity(alloc, n as usize)?;
-    for i in 0..n {
-        all.push(i)?;
-    }
-    Ok(all)
 }
 
 // The symbols in order.

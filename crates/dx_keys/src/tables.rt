@@ -4,9 +4,8 @@ ghost use Rattle.dx_model.specs.Tables.{table_of};
 ghost use Rattle.dx_schema.specs.Tables.{key_determinations, model_tables, schema_table, tables_of};
 ghost use Rattle.dx_keys.specs.Numbers.{AreTablesIn, determination_of};
 
-use crate::numbering::counted;
 use dx_base::Items;
-use dx_chase::{Columns, NumberTable};
+use dx_chase::{Columns, NumberTable, counted};
 use dx_instance::Rows;
 use dx_schema::Schema;
 use std::alloc::{AllocError, Global};
