@@ -6,8 +6,8 @@ use crate::kinds::{ScriptKind, mark};
 use crate::numbers::numeral;
 use crate::pieces::{Piece, Shape, next_piece};
 use crate::words::word;
-use dx_base::{Items, Text, TextMade};
-use dx_tokens::TextKind;
+use dx_base::{Items, Text};
+use dx_tokens::{TextKind, text_from};
 use std::alloc::{AllocError, Global};
 
 /// A token with what it says. A place counts the bytes before it.
@@ -61,18 +61,6 @@ fn undoubled(alloc: Global, bytes: &[u8]) -> Result<Vec<u8>, AllocError>
         };
     }
     Ok(found)
-}
-
-// The text of bytes that are UTF-8.
-fn text_from(alloc: Global, bytes: &[u8]) -> Result<Text, AllocError>
-    requires { IsUtf8 bytes.now }
-    ensures { IfOk result (λ t. t ≡ bytes.now) }
-{
-    match Text::from_bytes(alloc, bytes) {
-        Ok(text) => Ok(text),
-        Err(TextMade::Memory) => Err(AllocError),
-        Err(TextMade::NotUtf8) => unreachable!(),
-    }
 }
 
 // A token without a text.

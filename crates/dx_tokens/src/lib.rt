@@ -16,5 +16,5 @@ pub use bytes::{continues_word, is_blank_byte, is_digit_byte, starts_word};
 pub use faults::{TextFault, TextKind};
 pub use laws::{parts_are_scanned, scan_agrees_with_tokens, scan_is_of_the_text, texts_are_quoted};
 pub use pieces::{Item, wide_item};
-pub use scanner::{Lexeme, Scanned, Stop, scan};
+pub use scanner::{Lexeme, Scanned, Stop, scan, text_from};
 pub use tokenizer::{Token, TokenKind, tokens};
