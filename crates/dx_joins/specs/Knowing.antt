@@ -12,6 +12,10 @@ IsKnown known x = slice_index_or known.marks.items x false ≡ true
 abbrev pub IsMet : Known → Pattern → Type 0
 IsMet known p = (x : ℕ) × (x ∈ p.variables.items) × IsKnown known x
 
+-- each variable of the pattern is known
+abbrev pub IsCovered : Known → Pattern → Type 0
+IsCovered known p = Each p.variables.items (IsKnown known)
+
 -- each of these variables can become known
 abbrev pub HasPlaces : Known → List ℕ → Type 0
 HasPlaces known xs = Each xs (λ x. x < length known.marks.items)

@@ -2,7 +2,7 @@
 ghost use Rattle.std.specs.Prelude.{◌↔◌, ◌<◌, ◌≤◌, ◌∷◌, [], ℕ, IfOk, IsTrue};
 ghost use Rattle.dx_base.specs.Members.{Each};
 ghost use Rattle.dx_joins.specs.Joining.{variables_of_patterns};
-ghost use Rattle.dx_joins.specs.Knowing.{HasPlaces, IsKnown, IsMet, NowKnown};
+ghost use Rattle.dx_joins.specs.Knowing.{HasPlaces, IsCovered, IsKnown, IsMet, NowKnown};
 
 use crate::pattern::Pattern;
 use std::alloc::{AllocError, Global};
@@ -72,6 +72,18 @@ impl Known {
             }
         }
         false
+    }
+
+    /// Whether each variable of the pattern is known.
+    pub(crate) fn covers(&self, pattern: &Pattern) -> bool
+        ensures { IsTrue result ↔ IsCovered self.now pattern.now }
+    {
+        for variable in &pattern.variables {
+            if !self.has(*variable) {
+                return false;
+            }
+        }
+        true
     }
 
     // Now the variable is known too, if there is a place for it.

@@ -12,10 +12,14 @@ use crate::pattern::Pattern;
 use dx_instance::{Numbers, Rows};
 use std::alloc::{AllocError, Global};
 
-// How many rows a pattern may stand for, after all others if it shares no variable with those before it.
+// How many rows a pattern may stand for: none more if its variables are all known, since then it drops rows alone, and
+// after all others if it shares no variable with those before it.
 fn cost(pattern: &Pattern, known: &Known, source: &Numbers) -> u64
     requires { FitPattern source.now.tables pattern.now }
 {
+    if known.covers(pattern) {
+        return 0;
+    }
     let rows = u64::from(source.count(pattern.table));
     if known.meets(pattern) {
         rows
@@ -42,7 +46,8 @@ fn cheapest(patterns: &[Pattern], first: usize, known: &Known, source: &Numbers)
     best
 }
 
-// The same patterns: always one next that shares a variable with those before it, if there is one, of the smallest table.
+// The same patterns: always one next whose variables are all known, or else one that shares a variable with those before
+// it, if there is one, of the smallest table.
 fn in_order(
     alloc: Global,
     patterns: Vec<Pattern>,
