@@ -379,7 +379,7 @@ TOLD = [
          ["there is no folder given/", "cp -r out given"], ("judge",)),
     Told("given cells", {"mapping.clio": PERSON, "given/person.csv": "name,num\n" + "a,\n" * 4,
                          "given/desk.csv": "no\n1\n"}, 6, "limit: given cells 7",
-         ["given/person.csv: 4 records of 2 columns, 8 cells (passes it)", "9 cells in all; 7 are allowed",
+         ["given/person.csv: 4 records of 2 columns, 8 cells (exceeds it)", "9 cells in all; 7 are allowed",
           "what to do: "], ("judge",)),
     other("no other mapping", "other.clio is absent", None, "clio compare reads mapping.clio and other.clio"),
     other("an unknown column of the other mapping", f"unknown name at byte {PERSON.index('emp.name') + 4}",

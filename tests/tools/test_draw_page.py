@@ -70,6 +70,12 @@ class Drawing(Page):
         self.choose("#inspector select", "pair")
         self.browser.click('#source [data-key="emp.dept"] .name')
         self.until_text("line pair(emp.name, emp.dept) -> person.name;")
+        self.browser.click('#source [data-key="dept.city"] .name')
+        self.browser.until("document.querySelector('#inspector button:last-of-type').textContent.includes('team.town')")
+        self.browser.click("#inspector button:last-of-type")
+        self.choose("#inspector select", "pair")
+        self.browser.click('#source [data-key="dept.dname"] .name')
+        self.until_text("line pair(dept.city, dept.dname) -> team.town;")
         self.settled()
         self.assertIsNone(self.browser.js("clioDraw.model.live.fault"))
 

@@ -54,9 +54,10 @@ class Messages(Trial):
             self.assertNotIn("here can be", said)
 
     def test_conversion_in_another(self) -> None:
-        said = self.of_mapping(EMP + "line trim(digits(emp.name)) -> person.name;")
-        self.assertIn("conversions can't stand in each other", said)
-        self.assertNotIn("here can be", said)
+        for call in "trim(digits(emp.name))", "pair(trim(emp.name), emp.name)", "pair(emp.name, trim(emp.name))":
+            said = self.of_mapping(EMP + f"line {call} -> person.name;")
+            self.assertIn("conversions can't be nested", said)
+            self.assertNotIn("here can be", said)
 
     def test_curly_quotes(self) -> None:
         self.assertIn("texts are in straight quotes", self.of_mapping(EMP + "line \u201ctoys\u201d -> person.dept;"))
@@ -150,7 +151,7 @@ class Messages(Trial):
         deep = "set s { x; " * 20_000 + "}" * 20_000
         said = self.of_mapping(f"mapping 1; source {{ {deep} }} target {{ }}", 6)
         self.assertTrue(said.startswith("limit: depth 16\n"), said[:300])
-        self.assertIn("this set would be number 17 of those that stand in each other", said)
+        self.assertIn("this set would be number 17 of those nested in each other", said)
         self.assertLessEqual(len(said.splitlines()), 41)
 
     def test_rows_that_a_key_joins(self) -> None:

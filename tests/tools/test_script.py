@@ -25,7 +25,10 @@ class Script(Trial):
     def test_refusals(self) -> None:
         long = "n" * 64
         cut = f'CREATE TABLE target."{long}" ("x" TEXT);'
+        match = 'CREATE TABLE m0 AS SELECT DISTINCT %s(a0."x") AS c0 FROM source."a" AS a0;'
         for script, why in [("DROP TABLE x;", "no step of a script"), (cut, "after 63 letters"),
+                            (match % '"upper"', 'knows no conversion "upper"'), (match % "upper", "conversion upper"),
+                            (match % "pg_read_file ", "conversion pg_read_file"),
                             ("rule a(x0) -> t(x0);", "no step"),
                             ('CREATE TABLE m0 AS SELECT DISTINCT a0."x" AS c0 FROM source."a" AS a0; '
                              "COPY x FROM PROGRAM 'id'; --;", "no step")]:

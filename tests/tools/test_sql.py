@@ -21,7 +21,6 @@ from clio_tools.sql.command import rounded
 from clio_tools.sql.forecast import Forecast
 from clio_tools.sql.script import Script
 from clio_tools.sql.servers import reached, sign
-from clio_tools.sql.words import POSTGRES, SQLITE
 from covers import Covers, CoveredPlaces
 from files import moved, nulls_text
 from homomorphisms import core_of, homomorphism, is_core
@@ -249,12 +248,6 @@ class Words(Trial):
         self.assertEqual((again.secrets, "old" in again.shown()), ({"password": "it's \\ old"}, False))
         self.assertRaises(Refused, reached, ["host=a", "host=a user=b"])
         self.assertRaises(Refused, reached, [" "])
-
-    def test_an_unknown_conversion_or_test_is_an_error(self) -> None:
-        for words in POSTGRES, SQLITE:
-            self.assertEqual(words.exported('"digits"(a0."x")'), words.conversions["digits"].format('a0."x"'))
-            self.assertRaises(Refused, words.exported, '"upper"(a0."x")')
-            self.assertRaises(Refused, words.passes, '"x"', "even")
 
     def test_no_step_is_skipped(self) -> None:
         self.assertRaises(ValueError, Script().add, "DROP TABLE m0;")

@@ -4,6 +4,7 @@ import threading
 from collections.abc import Callable
 from typing import NamedTuple
 
+from ..mapping.meanings import CONVERSIONS, TESTS
 from .change import CannotEdit
 from .checked import checked
 from .edits import edited
@@ -75,7 +76,8 @@ class Answers:
         except CannotRead as why:
             return {"error": str(why)}
         return {"name": read.name, "folder": str(self.folder.path), "text": read.text, "digest": read.digest,
-                "ends": read.ends, "outline": as_data(read.text)}
+                "ends": read.ends, "outline": as_data(read.text),
+                "conversions": {name: one.arity for name, one in CONVERSIONS.items()}, "tests": list(TESTS)}
 
     def disk(self, name: str) -> Data:
         """Which text is on the disk now."""

@@ -25,6 +25,8 @@ CHARACTERS = {
     b"\xfe": "the text isn't UTF-8: write it as UTF-8",
     b":": "the marks are { } ( ) , ; . = ->",
 }
+CALLS = "|".join(CONVERSIONS).encode()
+NESTED = re.compile(rb"\b(%b)\s*\([^()]*\b(%b)\s*$" % (CALLS, CALLS))
 CURLY = "\u201c\u201d\u201e\u201f\u2018\u2019\u201a\u00ab\u00bb"  # quotes of word processors
 
 
@@ -85,8 +87,8 @@ def at_byte(kind: str, place: int, text: MappingText, message: str) -> Iterator[
 def of_place(content: bytes, place: int) -> list[str]:
     """What is often meant at a place where it can't be: a test in a rule, or a conversion in another one."""
     before = re.split(rb";|}", content[:place])[-1]
-    if content[place:place + 1] == b"(" and re.search(rb"\b(trim|digits|join)\s*\(\s*(trim|digits|join)\s*$", before):
-        return ["conversions can't stand in each other: one takes columns alone (in a rule variables)"]
+    if content[place:place + 1] == b"(" and NESTED.search(before):
+        return ["conversions can't be nested: one takes columns alone (in a rule variables)"]
     in_rule, is_right = re.match(rb"\s*(//[^\n]*\n\s*)*rule\b", before), b"->" in before
     if in_rule and not is_right and content[place:place + 1] == b'"':
         return ["a rule has no test of a text: its left side has variables alone, and after `where` conversions",

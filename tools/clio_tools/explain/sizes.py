@@ -1,4 +1,4 @@
-"""Which size passed a limit, how large it is, and what to do."""
+"""Which size exceeds a limit, how large it is, and what to do."""
 import os
 import pathlib
 from collections.abc import Callable, Iterator, Sequence
@@ -45,7 +45,7 @@ CURES = {
 
 
 def explain(message: str, content: bytes | None, words: Sequence[str] = ()) -> Iterator[str]:
-    """The lines that explain a message `limit: COUNT N`; a comparison has two mappings, either of which may pass it."""
+    """The lines that explain a message `limit: COUNT N`; either mapping of a comparison may exceed it."""
     count, _, number = message.removeprefix("limit: ").rpartition(" ")
     parts: dict[str, Callable[[MappingText, int], Iterator[str]]] = {
         "tables": tables, "columns": columns, "depth": depth, "lines": lines, "variants": variants,
@@ -105,7 +105,7 @@ def given_cells(text: MappingText, number: int) -> Iterator[str]:
             total += count * len(table.columns)
             yield (f"   {path}: {amount(count, 'record')} of {amount(len(table.columns), 'column')},"
                    f" {count * len(table.columns):,} cells"
-                   + (" (passes it)" if total > number >= total - count * len(table.columns) else ""))
+                   + (" (exceeds it)" if total > number >= total - count * len(table.columns) else ""))
     yield f"the files have {total:,} cells in all; {number:,} are allowed"
 
 
@@ -130,7 +130,7 @@ def columns(text: MappingText, number: int) -> Iterator[str]:
 
 def depth(text: MappingText, number: int) -> Iterator[str]:
     if text.fault and text.fault.kind == "depth":
-        yield f"this set would be number {number + 1} of those that stand in each other:"
+        yield f"this set would be number {number + 1} of those nested in each other:"
         yield from with_caret(text.content, text.fault.start, 3)
 
 
@@ -196,7 +196,7 @@ def candidates(text: MappingText, number: int) -> Iterator[str]:
 def rules(text: MappingText, number: int) -> Iterator[str]:
     mapping = read_mapping(text.content)
     made = len(rules_of_lines(mapping.lines, mapping.source, mapping.target))
-    yield (f"lines make {amount(made, 'rule')}, and {amount(len(mapping.rules), 'rule')} stand in the text;"
+    yield (f"lines make {amount(made, 'rule')}, and {amount(len(mapping.rules), 'rule')} are in the text;"
            f" {number} are allowed in all")
 
 
@@ -224,7 +224,7 @@ def data_bytes(text: MappingText, number: int) -> Iterator[str]:
         if table.parent is None and os.path.isfile(file_of(table)):
             size = os.path.getsize(file_of(table))
             total += size
-            yield f"   {file_of(table)}: {size:,} bytes" + (" (passes it)" if total > number >= total - size else "")
+            yield f"   {file_of(table)}: {size:,} bytes" + (" (exceeds it)" if total > number >= total - size else "")
     yield f"the source files have {total:,} bytes in all; {number:,} can be read"
 
 

@@ -62,8 +62,9 @@ class Mapping:
     end_of_sets: int
 
     def passes(self, number: int, row: tuple[str, ...]) -> bool:
-        """Whether a row of a source table passes every condition on the table."""
-        return all(TESTS[one.test](row[one.column.column]) for one in self.conditions if one.column.table == number)
+        """Whether a row of a source table satisfies every condition on the table."""
+        return all(TESTS[one.test].holds(row[one.column.column]) for one in self.conditions
+                   if one.column.table == number)
 
 
 def read_mapping(content: bytes) -> Mapping:

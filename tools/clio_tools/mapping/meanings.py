@@ -1,6 +1,16 @@
-"""What clio knows by name: the conversions and the tests."""
+"""What clio knows by name, the conversions and the tests: what each means, here and in the SQL of each engine.
+
+All tools take them from here; a name that isn't here is refused."""
 import re
 from typing import Callable, NamedTuple
+
+
+class Sql(NamedTuple):
+    """An expression of SQL, in which {0} and {1} are texts, as each engine has it."""
+
+    postgres: str
+    sqlite: str
+    duckdb: str
 
 
 class Conversion(NamedTuple):
@@ -8,6 +18,14 @@ class Conversion(NamedTuple):
 
     arity: int
     apply: Callable[..., str]
+    sql: Sql
+
+
+class RowTest(NamedTuple):
+    """A test of a text."""
+
+    holds: Callable[[str], bool]
+    sql: Sql
 
 
 def _trim(text: str) -> str:
@@ -18,12 +36,23 @@ def _digits(text: str) -> str:
     return "".join(sign for sign in text if sign in "0123456789")
 
 
+def own(name: str) -> str:
+    """The name in SQLite of the function that clio-sql makes of a conversion."""
+    return f"clio_{name}"
+
+
+DIGITS = "regexp_replace({0}, '[^0123456789]', '', 'g')"
+PAIR = "{0} || ' ' || {1}"
+FILLED = "{0} <> ''"
+
 CONVERSIONS: dict[str, Conversion] = {
-    "trim": Conversion(1, _trim),
-    "digits": Conversion(1, _digits),
-    "pair": Conversion(2, lambda first, second: f"{first} {second}"),
+    "trim": Conversion(1, _trim, Sql("btrim({0}, ' ')", "trim({0}, ' ')", "trim({0}, ' ')")),
+    "digits": Conversion(1, _digits, Sql(DIGITS, own("digits") + "({0})", DIGITS)),
+    "pair": Conversion(2, lambda first, second: f"{first} {second}", Sql(PAIR, PAIR, PAIR)),
 }
-TESTS: dict[str, Callable[[str], bool]] = {
-    "filled": lambda text: text != "",
-    "numeric": lambda text: re.fullmatch("[0-9]+", text) is not None,
+TESTS: dict[str, RowTest] = {
+    "filled": RowTest(lambda text: text != "", Sql(FILLED, FILLED, FILLED)),
+    "numeric": RowTest(lambda text: re.fullmatch("[0-9]+", text) is not None,
+                       Sql("{0} ~ '^[0123456789]+$'", "({0} <> '' AND {0} NOT GLOB '*[^0-9]*')",
+                           "regexp_full_match({0}, '[0123456789]+')")),
 }

@@ -5,6 +5,7 @@ The first fault of a mapping is at the byte that clio names. Versions 1 to 3 are
 fault, and is read."""
 from typing import Callable, NamedTuple, Optional, TypeVar, Union
 
+from .meanings import TESTS
 from .places import Fault
 from .tokens import Token, lexed
 from .tree import (Argument, Atom, Cell, Dependency, Derived, Item, Key, Line, Lookup, Only, Place, Ref, Rows, Rule,
@@ -365,7 +366,7 @@ class _Parser:
         if len(last.words) > 1:
             self.take(".")
         text = name = None
-        if self.take("=", "filled", "numeric", *["."] * (len(last.words) == 1)).kind == "=":
+        if self.take("=", *TESTS, *["."] * (len(last.words) == 1)).kind == "=":
             text = self.take(STRING)
         else:
             name = self.tokens[self.at - 1]

@@ -95,8 +95,9 @@ class Mapping:
                            for one in read.conditions]
 
     def passing(self, table: Set, rows: Iterable[list[str]]) -> Iterator[list[str]]:
-        """Those of a source table's rows that pass all conditions on it."""
-        tests = [(table.columns.index(one.column), TESTS[one.test]) for one in self.conditions if one.set == table.name]
+        """Those of a source table's rows that satisfy all conditions on it."""
+        tests = [(table.columns.index(one.column), TESTS[one.test].holds) for one in self.conditions
+                 if one.set == table.name]
         return (row for row in rows if all(test(row[place]) for place, test in tests))
 
 

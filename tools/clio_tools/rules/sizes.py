@@ -60,7 +60,7 @@ class Sizes:
 
     def _read(self, table: int) -> Optional[Records]:
         one = self.drawing.source.tables[table]
-        tests = [(one.columns.index(each.place.column.text), TESTS[each.test.text])
+        tests = [(one.columns.index(each.place.column.text), TESTS[each.test.text].holds)
                  for each in self.drawing.tree.conditions if each.place.set.text == one.name]
         try:
             rows = read_table(self.folder / f"{one.name}.csv", list(one.columns))
@@ -100,6 +100,6 @@ def _width(made: Made) -> int:
 
 
 def _passes(row: list[str], tests: list[Test]) -> bool:
-    """Whether a row passes tests."""
-    return all(row[test.column] == test.text if test.text is not None else TESTS[test.name or ""](row[test.column])
+    """Whether a row satisfies tests."""
+    return all(row[test.column] == test.text if test.name is None else TESTS[test.name].holds(row[test.column])
                for test in tests)

@@ -13,7 +13,7 @@ puts a table of yours there; clio-tables source loads files. What is turned into
 
     CREATE TABLE m0 AS SELECT ..   the same, with a column `place`: the row's number, by the bytes of its texts, from 0
     SKOLEM(0, 1, m.place)          a function, which gives the text ?0.1.place
-    "trim", "digits", "pair"       functions
+    "trim", "digits", "pair"       functions; another conversion is refused
     m.c0, 'text' in an INSERT      the text as clio writes it: one that begins with ? gets one ? more
     INSERT INTO ..                 of rows that are not there yet
 
@@ -24,6 +24,7 @@ what clio makes, on the examples.
 import re
 import sys
 
+from clio_tools.mapping.meanings import CONVERSIONS
 from clio_tools.program import Refused, run
 
 MATCH = re.compile(r"CREATE TABLE (m[0-9]+) AS (SELECT DISTINCT (.*?) FROM source\..*);")
@@ -31,6 +32,9 @@ KEEP = re.compile(r"CREATE TABLE (k[0-9]+) AS SELECT \* FROM m[0-9]+ AS m WHERE 
 CREATE = re.compile(r"CREATE TABLE target\.\"[^\"]+\" \(.*\);")
 INSERT = re.compile(r"INSERT INTO (target\.\"[^\"]+\") SELECT (.*) FROM ([mk][0-9]+) AS m;")
 QUOTED = re.compile(r"'(?:[^']|'')*'|\"[^\"]+\"")
+CALL = re.compile(r'("[^"]+"|[A-Za-z0-9_]+) *\(')
+CALLED = {"SKOLEM", "EXISTS", *(f'"{name}"' for name in CONVERSIONS)}  # what can have a parenthesis behind it
+TARGET = re.compile(r'CREATE TABLE target\."[^"]+" ')  # so can this
 UNQUOTED = re.compile(r"[A-Za-z0-9_.,=<>()* ]*;")  # what is in no quotes of a step: one statement, and no comment
 
 HEAD = r"""\set ON_ERROR_STOP on
@@ -44,16 +48,21 @@ CREATE FUNCTION clio.skolem(rule bigint, variable bigint, place bigint) RETURNS 
   AS $$ SELECT '?' || rule::text || '.' || variable::text || '.' || place::text $$;
 CREATE FUNCTION clio.written(value text) RETURNS text LANGUAGE sql IMMUTABLE
   AS $$ SELECT CASE WHEN value LIKE '?%' THEN '?' || value ELSE value END $$;
-CREATE FUNCTION clio."trim"(value text) RETURNS text LANGUAGE sql IMMUTABLE AS $$ SELECT btrim(value, ' ') $$;
-CREATE FUNCTION clio."digits"(value text) RETURNS text LANGUAGE sql IMMUTABLE
-  AS $$ SELECT regexp_replace(value, '[^0123456789]', '', 'g') $$;
-CREATE FUNCTION clio."pair"(one text, other text) RETURNS text LANGUAGE sql IMMUTABLE
-  AS $$ SELECT one || ' ' || other $$;
 """
 
 
+def functions() -> str:
+    """The statements that make a function of each conversion."""
+    made = ""
+    for name, conversion in CONVERSIONS.items():
+        values = [f"value{place}" for place in range(conversion.arity)]
+        made += (f'CREATE FUNCTION clio."{name}"({", ".join(f"{value} text" for value in values)}) RETURNS text'
+                 f" LANGUAGE sql IMMUTABLE\n  AS $$ SELECT {conversion.sql.postgres.format(*values)} $$;\n")
+    return made
+
+
 def split(text: str) -> list[str]:
-    """The parts of a list at the commas that stand in no parentheses and no quotes."""
+    """The parts of a list at the commas that are in no parentheses and no quotes."""
     parts, depth = [""], 0
     for piece in re.findall(r"'(?:[^']|'')*'|\"[^\"]+\"|.", text, re.DOTALL):
         depth += (piece == "(") - (piece == ")")
@@ -86,6 +95,9 @@ def turned(step: str, filled: set[str]) -> str:
     """What PostgreSQL runs for a step, when rows were already put into the tables `filled`."""
     if not UNQUOTED.fullmatch(QUOTED.sub("", step)):
         raise Refused(f"this is no step of a script that clio writes: {step[:200]}")
+    for name in CALL.findall(TARGET.sub("", re.sub(r"'(?:[^']|'')*'", "", step))):
+        if name not in CALLED:
+            raise Refused(f"clio-script-to-postgres knows no conversion {name}")
     if found := MATCH.fullmatch(step):
         return f"{match_rows(found[1], found[2], found[3])}\nANALYZE {found.group(1)};"
     if found := INSERT.fullmatch(step):
@@ -108,7 +120,7 @@ def work(words: list[str]) -> None:
             raise Refused(f"PostgreSQL cuts the name {name} after 63 letters")
     filled: set[str] = set()
     turned_steps = [turned(step, filled) for step in steps if step]
-    print(HEAD + "\n".join(turned_steps))
+    print(HEAD + functions() + "\n".join(turned_steps))
 
 
 def main() -> None:

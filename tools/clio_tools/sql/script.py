@@ -35,7 +35,7 @@ class Atom(NamedTuple):
 
 
 class Rule:
-    """The conclusion of a rule as it is printed, and the numbers of the variables that stand in it."""
+    """The conclusion of a rule as it is printed, and the numbers of the variables in it."""
 
     def __init__(self, text: str) -> None:
         arrow = ARROW.match(text)
@@ -129,7 +129,7 @@ def cover_of(found: re.Match[str]) -> Cover:
 
 
 def split(text: str) -> list[str]:
-    """The parts of a list at the commas that stand in no parentheses and no quotes."""
+    """The parts of a list at the commas that are in no parentheses and no quotes."""
     parts, depth = [""], 0
     for piece in PIECE.findall(text):
         depth += (piece == "(") - (piece == ")")

@@ -6,7 +6,7 @@ import time
 from collections.abc import Sequence
 
 
-from clio_tools.mapping.meanings import CONVERSIONS
+from clio_tools.mapping.meanings import CONVERSIONS, own
 from clio_tools.program import Refused
 from clio_tools.sql.session import Log, unlogged
 from clio_tools.sql.words import SQLITE, quoted
@@ -35,7 +35,8 @@ class Sqlite:
             self.base = sqlite3.connect("", isolation_level=None, uri=True)
             self.base.execute("ATTACH ? AS source", (f"{pathlib.Path(source).resolve().as_uri()}?mode=ro",))
             self.base.execute("ATTACH ? AS target", (self.target.resolve().as_uri(),))
-            self.base.create_function("clio_digits", 1, CONVERSIONS["digits"].apply, deterministic=True)
+            for name, conversion in CONVERSIONS.items():
+                self.base.create_function(own(name), conversion.arity, conversion.apply, deterministic=True)
             for schema in "main", "target":
                 self.base.execute(f"PRAGMA {schema}.cache_size = -200000")
             self.base.execute("BEGIN IMMEDIATE")

@@ -2,6 +2,7 @@
 import re
 from dataclasses import dataclass, replace
 
+from clio_tools.mapping.meanings import CONVERSIONS, TESTS, Sql
 from clio_tools.program import Refused
 
 CALL = re.compile(r'"([A-Za-z_][A-Za-z0-9_]*)"\((.*)\)')
@@ -23,8 +24,7 @@ class Words:
     by_language: str  # has them compared as the engine likes it
     least: str  # the least of some cells that isn't NULL
     cell: str  # one of those cells
-    conversions: dict[str, str]
-    tests: dict[str, str]
+    engine: str  # its name in the table of conversions and tests
     has_indexes: bool  # whether joins need them
     has_statistics: bool  # whether the engine has to be told that a table has its rows
     divided: str = "{} / {}"  # an integer divided by another one, as an integer
@@ -61,34 +61,33 @@ class Words:
         if COLUMN.fullmatch(expression):
             return expression
         call = CALL.fullmatch(expression)
-        if not call or call[1] not in self.conversions:
+        if not call or call[1] not in CONVERSIONS:
             raise Refused(f"clio-sql knows no conversion {call[1] if call else expression}")
-        return self.conversions[call[1]].format(*call[2].split(", "))
+        return self.of_engine(CONVERSIONS[call[1]].sql).format(*call[2].split(", "))
 
     def passes(self, column: str, test: str) -> str:
-        """That a column passes a row test."""
-        if test not in self.tests:
+        """That a column satisfies a row test."""
+        if test not in TESTS:
             raise Refused(f"clio-sql knows no row test {test}")
-        return self.tests[test].format(column)
+        return self.of_engine(TESTS[test].sql).format(column)
+
+    def of_engine(self, sql: Sql) -> str:
+        """An expression as this engine has it."""
+        return str(getattr(sql, self.engine))
 
 
 POSTGRES = Words(
     name="PostgreSQL", table="UNLOGGED TABLE", view="VIEW",
     by_bytes=' COLLATE "C"', by_language=' COLLATE "default"', least="LEAST({})", cell="{}",
-    conversions={"trim": "btrim({0}, ' ')", "digits": "regexp_replace({0}, '[^0123456789]', '', 'g')",
-                 "pair": "{0} || ' ' || {1}"},
-    tests={"filled": "{0} <> ''", "numeric": "{0} ~ '^[0123456789]+$'"}, has_indexes=False, has_statistics=True)
+    engine="postgres", has_indexes=False, has_statistics=True)
 
 SQLITE = Words(
     name="SQLite", table="TABLE", view="TEMP VIEW",
     by_bytes=" COLLATE BINARY", by_language="", least="(SELECT min(column1) FROM (VALUES {}))", cell="({})",
-    conversions={"trim": "trim({0}, ' ')", "digits": "clio_digits({0})", "pair": "{0} || ' ' || {1}"},
-    tests={"filled": "{0} <> ''", "numeric": "({0} <> '' AND {0} NOT GLOB '*[^0-9]*')"},
-    has_indexes=True, has_statistics=False)
+    engine="sqlite", has_indexes=True, has_statistics=False)
 
 # as its manual has them: integers are divided by //, tests match a whole text, texts are compared by their bytes anyway
 DUCKDB = replace(
     POSTGRES, name="DuckDB", table="TABLE", by_bytes="", by_language="", has_statistics=False, divided="{} // {}",
-    names_lists=True, was_run=False, conversions={**POSTGRES.conversions, "trim": "trim({0}, ' ')"},
-    tests={**POSTGRES.tests, "numeric": "regexp_full_match({0}, '[0123456789]+')"})
+    names_lists=True, was_run=False, engine="duckdb")
 DIALECTS = {"postgres": POSTGRES, "duckdb": DUCKDB}

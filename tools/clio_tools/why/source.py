@@ -111,7 +111,7 @@ class Source:
     def failed(self, number: int, row: Row) -> list[int]:
         """The conditions that a row of a table fails."""
         return [place for place, one in enumerate(self.mapping.conditions)
-                if one.column.table == number and not TESTS[one.test](row[one.column.column])]
+                if one.column.table == number and not TESTS[one.test].holds(row[one.column.column])]
 
     def content(self, root: int) -> bytes:
         """The bytes of a root's file."""

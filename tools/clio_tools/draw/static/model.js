@@ -27,7 +27,9 @@ export const model = {
   typed: 0,
   selection: null,  // {kind: "line", index} or {kind: "column", side, set, column} or {kind: "ref", side, set, index}
   picked: null,     // a source column that waits for its target: [set, column]
-  pairing: null,    // a line that waits for its second column
+  pairing: null,    // a line that waits for more columns of a conversion: {index, name, columns}
+  conversions: {},  // how many columns each takes
+  tests: [],
   because: new Set(),
   becauseRule: null,
   ghost: null,
@@ -49,7 +51,16 @@ export async function open() {
   }
   Object.assign(
       model,
-      {text: read.text, saved: read.text, digest: read.digest, ends: read.ends, name: read.name, folder: read.folder});
+      {
+        text: read.text,
+        saved: read.text,
+        digest: read.digest,
+        ends: read.ends,
+        name: read.name,
+        folder: read.folder,
+        conversions: read.conversions,
+        tests: read.tests
+      });
   take(read.outline);
   tell("text");
   tell("outline");
@@ -79,6 +90,7 @@ export function typed(text) {
 function set(text) {
   model.text = text;
   model.current = false;
+  model.pairing = null;
   tell("text");
   refresh();
 }
@@ -202,7 +214,8 @@ export async function loadTheirs() {
 
 export function select(selection) {
   model.selection = selection;
-  if (model.pairing && (!selection || selection.kind !== "column")) model.pairing = null;
+  const goesOn = selection?.kind === "column" || selection?.kind === "line" && selection.index === model.pairing?.index;
+  if (!goesOn) model.pairing = null;
   tell("selection");
 }
 
