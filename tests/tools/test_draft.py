@@ -178,7 +178,7 @@ class Delimited(Draft):
 
     def test_refusals(self) -> None:
         for content, why in [(b"", "no header"), (b"x\n\"open\n1\n", "a quote is never closed"),
-                             (b"x\n\"a\"b\n", "text stands after a closing quote"),
+                             (b"x\n\"a\"b\n", "there is text after a closing quote"),
                              (b"x,y\n1\n", "record 1 has 1 field, and the header 2"),
                              (b"x\n\xff\n", "record 1, at line 2, is not UTF-8"),
                              ("x\n1\n".encode("utf-16"), "not UTF-8")]:

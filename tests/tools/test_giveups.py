@@ -1,4 +1,4 @@
-"""dev/giveups: which code answers want of memory by itself."""
+"""dev/giveups: which code answers out of memory by itself."""
 import importlib.machinery
 import importlib.util
 import sys

@@ -126,7 +126,7 @@ class Whole(Server):
             self.assertEqual(self.session.value("SELECT one FROM target.mine"), "1")
         before = self.target()
         self.file("mapping.clio", TWO.replace("u { x, z; }", "u { x, w; }"))
-        why = "something hangs on target.u, which is to have other columns now"
+        why = "something depends on target.u, which is to have other columns now"
         self.refused("clio-sql", "postgres", self.place, why=why)
         self.assertEqual(self.target(), before)
 

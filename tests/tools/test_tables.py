@@ -116,7 +116,7 @@ class Refusals(Shop):
         self.file("out/b0.csv", "n" * 64 + "\n")
         self.refused("clio-tables", "postgres", why="after 63 letters")
         self.file("mapping.clio", copy_mapping(["x", "X"]))
-        self.refused("clio-tables", "sqlite", why="does not tell x from X")
+        self.refused("clio-tables", "sqlite", why="takes x and X as one name")
         self.file("mapping.clio", copy_mapping(["x", "ctid"]))
         self.file("a0.csv", "x,ctid\n1,2\n")
         for what in "postgres", "source":

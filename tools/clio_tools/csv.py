@@ -101,7 +101,7 @@ def _counted_records(path: Path, delimiter: str, strict: bool) -> Iterator[Row]:
             if "end of data" in why:
                 why = "a quote is never closed"
             elif strict:
-                why = "text stands after a closing quote"
+                why = "there is text after a closing quote"
             raise Refused(f"{path}: the record after line {line}: {why}") from None
 
 

@@ -121,7 +121,7 @@ class Elements:
         """Takes one of some signs."""
         found = self.sign()
         if not found or found not in wanted:
-            raise ValueError(f"{found!r} stands where one of {wanted} must stand")
+            raise ValueError(f"{found!r} is where one of {wanted} must be")
         self.at += 1
         return found
 
@@ -185,7 +185,7 @@ def _objects(table: Set, array: Value, above: Above, found: Found) -> None:
     """Puts the rows of an array of objects, and of the arrays inside them, to those that were found."""
     path = above[0]
     if not isinstance(array, list) and (array is not None or not path):
-        raise Refused(f"wrong shape at {path}: an array of objects must stand there")
+        raise Refused(f"wrong shape at {path}: an array of objects must be there")
     for place, one in enumerate(array or []):
         _object(table, one, place, above, found)
 
@@ -195,7 +195,7 @@ def _object(table: Set, one: Value, place: int, above: Above, found: Found) -> N
     path, name, up = above
     here = f"{path}/{place}"
     if not isinstance(one, dict):
-        raise Refused(f"wrong shape at {here}: an object must stand there")
+        raise Refused(f"wrong shape at {here}: an object must be there")
     if unknown := sorted(set(one) - set(table.declared) - {inner.name for inner in table.inner}):
         raise Refused(f"unknown member at {here}/{unknown[0]}")
     own = ([f"#{name}{place}"] if table.inner else []) + ([] if up is None else [up])

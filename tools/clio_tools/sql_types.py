@@ -157,7 +157,7 @@ def read_types(path: str, tables: list[Set]) -> Types:
         name, _, of_table = words[0].partition(".")
         place = name, of_table
         if len(words) != 2 or place not in types:
-            raise Refused(f"{path}: line {number}: a column of the target and its type must stand there,"
+            raise Refused(f"{path}: line {number}: a line is a column of the target and its type,"
                           " as in person.age integer")
         if words[1] not in HOLDS:
             raise Refused(f"{path}: line {number}: {words[1]} is none of the types {', '.join(HOLDS)}")

@@ -28,7 +28,7 @@ doesn't match, a limit that is exceeded.
 
 `--mapping FILE` writes the data for the sets that a mapping text declares, with the columns in their order, and prints
 nothing. So a file with its columns in another order, or a database with more tables, is read by a mapping that is
-there. Of a document, remarks tell members and arrays that the mapping doesn't have, which are left out; a declared
+there. Of a document, remarks name members and arrays that the mapping doesn't have, which are left out; a declared
 member that no object has is empty.
 
 `--null TEXT` writes NULL, and null in a document, as this text in place of the empty one, so that they stay apart. It

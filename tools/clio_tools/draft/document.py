@@ -208,7 +208,7 @@ def roots_of(path: pathlib.Path, document: Value) -> dict[str, list[Object]]:
         if not document or len(arrays) < len(document):
             arrays = {path.stem: [document]}
     else:
-        raise Refused(f"{path}: the document is a single value, and an array of objects must stand there")
+        raise Refused(f"{path}: the document is a single value, and must be an array of objects")
     roots = {name: [one for one in array if isinstance(one, dict)] for name, array in arrays.items()}
     for name, array in arrays.items():
         if len(roots[name]) < len(array):

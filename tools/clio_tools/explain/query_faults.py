@@ -70,5 +70,5 @@ def of_name(place: int, parts: tuple[Part, ...], sides: Sides) -> Iterator[str]:
         if any(cell.kind == "word" and cell.start == place for cell in part.answer):
             variables = dict.fromkeys(cell.value.text for atom in part.atoms for cell in atom.cells
                                       if cell.value.kind == "word")
-            yield ("a variable that is answered must stand in a table of its part;"
+            yield ("a variable that is answered must be in a table of its part;"
                    f" those of part {number}: {listed(variables) or 'none'}")

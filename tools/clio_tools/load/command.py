@@ -60,7 +60,7 @@ options, and how many rows of each table.
 
 `--wait SECONDS` waits so long for a lock of somebody else, ten seconds if it is left out.
 
-`--name NAME` tells the loads of several mappings into the same tables apart: the rows that a load of another name wrote
+`--name NAME` keeps the loads of several mappings into the same tables apart: the rows that a load of another name wrote
 are not its own. The name is clio if it is left out.
 
 PLACES

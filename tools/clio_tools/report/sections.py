@@ -40,9 +40,9 @@ def source(figures: Figures, written: dict[int, str]) -> Iterator[str]:
     lines: list[tuple[Cell, list[int]]] = [
         (one.table.name, [one.rows.records + one.failing, *[one.failing] * has_conditions, one.rows.repeats,
                           len(one.rows.rows), sum(one.used), len(one.not_used)]) for one in figures.source]
-    yield summed(["set", "#records", *["#don't pass"] * has_conditions, "#repeat another", "#different rows",
+    yield summed(["set", "#records", *["#fail a condition"] * has_conditions, "#repeat another", "#different rows",
                   "#used by a rule", "#used by none"], lines)
-    without = "those that don't pass a condition + " if has_conditions else ""
+    without = "those that fail a condition + " if has_conditions else ""
     yield paragraph(f"Records = {without}those that repeat another + different rows; different rows = used + not used.",
                     "soft")
     for one in figures.source:

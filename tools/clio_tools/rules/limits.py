@@ -1,4 +1,4 @@
-"""What is said if a printed mapping is past a limit of clio: the count, where in the drawing it comes from, and what to
+"""What is said if a printed mapping exceeds a limit of clio: the count, where in the drawing it comes from, and what to
 write."""
 from typing import Callable, Optional
 

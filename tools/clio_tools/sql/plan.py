@@ -13,7 +13,7 @@ class Plan:
     def __init__(self, words: Words) -> None:
         self.words = words
         self.say(f"-- SQL of {words.name}, in the order in which clio-sql runs it. A query by itself is a question;")
-        self.say("-- what follows hangs on its answer, and is printed as if all could be so. Loops are printed once.")
+        self.say("-- what follows depends on its answer, and is printed as if all could be so. Loops are printed once.")
         self.say("-- Work tables are in a schema of the run's own.")
         if not words.was_run:
             self.say(f"-- It was never run: its words for {words.name} are those of the manual of that engine.")

@@ -18,7 +18,7 @@ SETTINGS = ("SET client_min_messages = warning; SET client_encoding = 'UTF8'; SE
             " SET default_statistics_target = 10; SET enable_nestloop = off; SET jit = off;"
             " SET max_parallel_workers_per_gather = 0")
 # of a table of the target: whether it is one, whether clio-sql made it, whether it is in one piece, its columns, and
-# whether anything hangs on it: rights, views, indexes, a comment
+# whether anything depends on it: rights, views, indexes, a comment
 THERE = """SELECT c.relkind IN ('r', 'p'), coalesce(obj_description(c.oid, 'pg_class') = {made}, false),
  c.relkind = 'r', ARRAY(SELECT attname::text FROM pg_attribute WHERE attrelid = c.oid AND attnum > 0
   AND NOT attisdropped ORDER BY attnum),
@@ -44,7 +44,7 @@ class Postgres:
         self.is_one_snapshot = sessions == 1
         self.prepared: list[tuple[str, Sequence[str], Sequence[str]]] = []
         self.counts: dict[str, int] = {}
-        self.refilled: dict[str, bool] = {}  # whether a table that is there keeps its place, as something hangs on it
+        self.refilled: dict[str, bool] = {}  # whether a table that is there keeps its place, as something depends on it
         self.sessions: list[Session] = []
         try:
             self.sessions = [Session(connection, log) for _ in range(sessions)]
@@ -87,7 +87,7 @@ class Postgres:
                     raise Refused(f"target.{name} is there, and is no table of these columns that clio-sql could"
                                   " replace: rename it, or drop it")
                 if is_hung and is_plain and there != columns:
-                    raise Refused(f"something hangs on target.{name}, which is to have other columns now:"
+                    raise Refused(f"something depends on target.{name}, which is to have other columns now:"
                                   " drop that first, as a view or an index")
                 self.refilled[name] = is_hung and is_plain
 
@@ -116,7 +116,7 @@ class Postgres:
         return rows
 
     def together(self, statements: Sequence[str]) -> list[int]:
-        """Runs statements that don't hang on each other, on all sessions at once; answers the rows of each. An
+        """Runs statements that don't depend on each other, on all sessions at once; answers the rows of each. An
         interrupt cancels them all."""
         waiting, rows, failed = list(enumerate(statements))[::-1], [-1] * len(statements), list[BaseException]()
         lock = threading.Lock()
@@ -183,7 +183,7 @@ class Postgres:
             rows = rows[len(parts):]
 
     def put(self, name: str, columns: Sequence[str]) -> None:
-        """Puts what was made in the place of what is there: its rows alone, if something hangs on the table."""
+        """Puts what was made in the place of what is there: its rows alone, if something depends on the table."""
         if self.refilled.get(name):
             listed = ", ".join(f'"{column}"' for column in columns)
             self.one.made(f'TRUNCATE target."{name}"')

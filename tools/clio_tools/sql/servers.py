@@ -49,7 +49,7 @@ def reached(lines: Sequence[str]) -> list[postgres.Place]:
 
 
 def sign(place: postgres.Place) -> str:
-    """The name of a server, which doesn't hang on who asks."""
+    """The name of a server, which doesn't depend on who asks."""
     words = sorted((word, value) for word, value in place.words.items() if word != "user")
     return "clio_" + hashlib.sha256(repr(words).encode()).hexdigest()[:12]
 

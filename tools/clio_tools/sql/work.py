@@ -39,7 +39,7 @@ class Engine(Protocol):
         """Makes a work table; answers its rows."""
 
     def make_all(self, tables: Sequence[Made]) -> list[int]:
-        """Makes work tables that don't hang on each other, of one state of the source; answers the rows of each."""
+        """Makes work tables that don't depend on each other, of one state of the source; answers the rows of each."""
 
     def load(self, name: str, columns: Sequence[str], rows: Sequence[Row]) -> None:
         """Makes a work table of rows that the tool has; each column is given with its type."""

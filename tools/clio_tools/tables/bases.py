@@ -60,7 +60,7 @@ class Sqlite:
             lower = [name.lower() for name in names]
             for place, name in enumerate(names):
                 if lower.index(name.lower()) < place:
-                    raise Refused(f"SQLite does not tell {names[lower.index(name.lower())]} from {name}")
+                    raise Refused(f"SQLite takes {names[lower.index(name.lower())]} and {name} as one name")
         for table in tables:
             if table.name.lower().startswith("sqlite_"):
                 raise Refused(f"SQLite keeps the name {table.name} for itself")
