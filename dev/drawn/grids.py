@@ -6,6 +6,7 @@ from typing import NamedTuple
 from clio_tools.picture.svg import LETTER, ROW, curve, document, group, path, rectangle, text_at
 
 Cell = tuple[str, int, str]  # a table, a row from 0, a column
+HALO = "paint-order: stroke; stroke: var(--box); stroke-width: 4px; stroke-linejoin: round"  # paths go behind texts
 
 
 class Grid(NamedTuple):
@@ -58,12 +59,17 @@ class Layout:
         x, y = self.at[one[0]]
         return x + sum(self.widths[one[0]][:place + end]) - (6 if end else -3), y + (one[1] + 2) * ROW + ROW / 2
 
-    def table(self, grid: Grid) -> list[str]:
-        """One table."""
+    def box(self, grid: Grid) -> list[str]:
+        """A table without its texts."""
         x, y = self.at[grid.name]
         wide = sum(self.widths[grid.name])
-        parts = [rectangle(x, y, wide, (len(grid.rows) + 2) * ROW + 4, "box"), rectangle(x, y, wide, ROW, "head"),
-                 text_at(x + 8, y + ROW / 2, grid.name, "title")]
+        return [rectangle(x, y, wide, (len(grid.rows) + 2) * ROW + 4, "box"), rectangle(x, y, wide, ROW, "head"),
+                text_at(x + 8, y + ROW / 2, grid.name, "title")]
+
+    def texts(self, grid: Grid) -> list[str]:
+        """The names of the columns, and the cells."""
+        x, y = self.at[grid.name]
+        parts = []
         for place, name in enumerate(grid.columns.split(" ")):
             left = x + sum(self.widths[grid.name][:place]) + 8
             parts.append(text_at(left, y + 1.5 * ROW, name, "soft"))
@@ -71,9 +77,14 @@ class Layout:
                 faint = (grid.name, number) in self.figure.struck
                 parts.append(text_at(left, y + (number + 2.5) * ROW, row.split(" ")[place].replace("·", " "), "soft"
                                      if faint else ""))
-        parts += [path(f"M{x + 5:.0f} {y + (row + 2.5) * ROW:.0f}h{wide - 10:.0f}", "way") for name,
-                  row in self.figure.struck if name == grid.name]
         return parts
+
+    def struck(self, grid: Grid) -> list[str]:
+        """What strikes rows out."""
+        x, y = self.at[grid.name]
+        wide = sum(self.widths[grid.name]) - 10
+        return [path(f"M{x + 5:.0f} {y + (row + 2.5) * ROW:.0f}h{wide:.0f}", "way") for name, row in self.figure.struck
+                if name == grid.name]
 
     def step(self, start: Cell, goal: Cell) -> str:
         """The path of a step; one inside a table goes round its right side."""
@@ -87,11 +98,14 @@ class Layout:
         """The whole figure."""
         parts = [text_at(12, 18, self.figure.title, "title")]
         for grid in self.figure.grids:
-            parts.append(group("ref", grid.name, self.table(grid)))
+            parts.append(group("ref", grid.name, self.box(grid)))
         for start, goal in self.figure.steps:
             parts.append(group("ref optional", "a step", [path(self.step(start, goal), "way")]))
         for number, (start, goal) in enumerate(self.figure.values):
             parts.append(group("line", "a value", [path(curve(*self.cell(start, True), *self.cell(goal, False)))],
                                f"color: var(--c{number})"))
+        for grid in self.figure.grids:
+            parts.append(group("", grid.name, self.texts(grid), HALO))
+            parts.append(group("ref", grid.name, self.struck(grid)))
         return document(max(self.right + 12, len(self.figure.title) * LETTER * 1.1 + 24), self.low - 14,
                         self.figure.title, parts)
