@@ -14,8 +14,8 @@ more on standard error, each text in quotes, cut if it is long, and without cont
                          equal; what of the mapping makes the first one
     limit: ..            which sets, lines, refs or rules exceed it, how large it is, and what to do, in at most 40
                          lines
-    read fault: ..       the reason of the system
-    write fault: ..      which file, and the reason of the system
+    read fault: ..       the system's reason
+    write fault: ..      which file, and the system's reason
     out of memory        how much there is
     query: ..            line, column, carets under the word, what can be there, and the sets and variables that exist
                          there
@@ -33,7 +33,7 @@ If nothing was refused it warns of what the manual calls traps: a rule of lines 
 source that drops rows, with their number, and whether a line uses it; columns of the source that go nowhere, and
 columns of the target that nothing fills; records that are there twice, and matches that became one; rows of nothing but
 nulls; rows with nothing in their key; rows of lines without the key that other rows of their set have; a set that has
-no key to group by; a quote that is never closed, or text behind one that is; a text that differs from another by a
+no key to group by; a quote that is never closed, or text after one that is; a text that differs from another by a
 space; a line from a text that no rule has; a ref of the target to no key. Each warning ends with its name and its set:
 the comment `// clio-explain: off NAME SET` in the mapping switches it off, without SET all of this name. After `show`
 it speaks of the mapping alone.

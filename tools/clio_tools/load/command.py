@@ -1,4 +1,4 @@
-"""Brings tables that are there to what the mapping demands.
+"""Brings existing tables to what the mapping demands.
 
     clio-load sqlite FILE [OPTION ..]
     clio-load postgres CONNECTION [SCHEMA] [OPTION ..]
@@ -96,7 +96,7 @@ WAIT = 10  # seconds for a lock of somebody else
 
 def asked(words: list[str]) -> argparse.Namespace:
     """What the words ask for."""
-    parser = argparse.ArgumentParser(prog=NAME, description="Brings tables that are there to what the mapping demands.",
+    parser = argparse.ArgumentParser(prog=NAME, description="Brings existing tables to what the mapping demands.",
                                      epilog="`clio-load sqlite --help` has the options; the manual is man clio-load.")
     kinds = parser.add_subparsers(dest="kind", required=True, metavar="sqlite|postgres")
     sqlite, postgres = kinds.add_parser("sqlite"), kinds.add_parser("postgres")

@@ -9,7 +9,7 @@ Run it in the folder of mapping.clio. The tables of the source are in the schema
 SOURCE.db, which is only read), under the names and with the columns of the mapping; their cells are texts and never
 NULL. The target is made in the schema `target` (the file TARGET.db): its tables, with values as clio writes them, and
 `nulls` and `fold` with what nulls.csv and fold.csv have. Tables that an earlier run made there, or that have just
-these columns, are replaced; others are refused. CONNECTION is what `psql` takes. Where clio holds 4,000,000 cells, a
+these columns, are replaced; others are refused. CONNECTION is what `psql` takes. Clio holds 4,000,000 cells, and a
 database holds more.
 
 In plain mode the target is the one that `clio exchange` writes. With --core, rows that other rules cover are left

@@ -24,7 +24,7 @@ run, it says so. If out is missing, or has the rules of another mapping or the n
 `clio exchange`, in a folder of its own.
 
 OPTIONS
-`--ids CROSSWALK`: where clio-ids gave a number to a null, KEY can have this number, as a database has it, and nulls are
+`--ids CROSSWALK`: if clio-ids gave a number to a null, KEY can have this number, as a database has it, and nulls are
 printed with theirs.
 
 `--core`: if clio-why runs clio itself, it does so in core mode.
