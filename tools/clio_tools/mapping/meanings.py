@@ -1,6 +1,6 @@
 """What clio knows by name, the conversions and the tests: what each means, here and in the SQL of each engine.
 
-All tools take them from here; a name that isn't here is refused."""
+All tools take them from here, in the order of clio's codes; a name that isn't here is refused."""
 import re
 from typing import Callable, NamedTuple
 
