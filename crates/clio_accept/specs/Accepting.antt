@@ -22,7 +22,8 @@ use Rattle.dx_tgd_text.specs.Reading.{RuleHasFewCells, rules_fault}
 use Rattle.dx_implies.specs.Pruning.{IsPrunedAlways, PruningPassesLimit}
 use Rattle.clio_accept.specs.declared.mapping.Mapping.{Mapping}
 use Rattle.clio_accept.specs.declared.fault.AcceptFault.{AcceptFault}
-use Rattle.clio_accept.specs.Mapping.{SourceRefused, TargetRefused, NameRefused, LinesRefused, NamingRefused, TestingRefused, WritingRefused}
+use Rattle.clio_accept.specs.Mapping.{SourceRefused, TargetRefused, NameRefused, LinesRefused}
+use Rattle.clio_accept.specs.Mapping.{NamingRefused, TestingRefused, WritingRefused}
 use Rattle.clio_accept.specs.Mapping.{LimitRefused, WidthRefused, RulesRefused, FrozenRefused, frozen_cells}
 use Rattle.clio_accept.specs.Mapping.{NoneReserved, AreRulesOf, written_of, limit_of, text_refusal}
 
@@ -54,19 +55,27 @@ line_count = checking (λ b. LinesRefused b.lines b.conditions) (λ b. length b.
 
 -- the words of the lines name what there is
 abbrev pub naming : List Conversion → Stage AcceptFault TextsBetween TextsBetween
-naming list = checking (λ b. NamingRefused list b.source b.target b.lines) (λ b. lines_fault b.source b.target list b.lines ≡ None)
+naming list =
+    checking (λ b. NamingRefused list b.source b.target b.lines)
+    (λ b. lines_fault b.source b.target list b.lines ≡ None)
 
 -- the words of the conditions name what there is
 abbrev pub conditions_stage : List RowTest → Stage AcceptFault TextsBetween TextsBetween
-conditions_stage tests = checking (λ b. TestingRefused tests b.source b.conditions) (λ b. conditions_fault b.source tests b.conditions ≡ None)
+conditions_stage tests =
+    checking (λ b. TestingRefused tests b.source b.conditions)
+    (λ b. conditions_fault b.source tests b.conditions ≡ None)
 
 -- the hand-written rules have no fault
 abbrev pub writing : List Conversion → Stage AcceptFault TextsBetween TextsBetween
-writing list = checking (λ b. WritingRefused list b.source b.target b.by_hand) (λ b. rules_fault b.source b.target list b.by_hand ≡ None)
+writing list =
+    checking (λ b. WritingRefused list b.source b.target b.by_hand)
+    (λ b. rules_fault b.source b.target list b.by_hand ≡ None)
 
 -- no limit of lines is passed
 abbrev pub limits : List Conversion → Stage AcceptFault TextsBetween TextsBetween
-limits list = checking (λ b. LimitRefused list b.source b.target b.lines) (λ b. limit_of list b.source b.target b.lines ≡ None)
+limits list =
+    checking (λ b. LimitRefused list b.source b.target b.lines)
+    (λ b. limit_of list b.source b.target b.lines ≡ None)
 
 -- the rules that the lines stand for, and the closed hand-written rules, none of which is too wide
 abbrev pub closing : List Conversion → Stage AcceptFault TextsBetween (List Rule)
@@ -91,19 +100,27 @@ abbrev pub leaving : Stage AcceptFault (List Rule) (List Rule)
 leaving = next rule_count (next frozen_count pruning)
 
 abbrev pub taking : List Conversion → List RowTest → Stage AcceptFault TextsBetween (List Rule)
-taking list tests = next line_count (next (naming list) (next (conditions_stage tests) (next (writing list) (next (limits list) (next (closing list) leaving)))))
+taking list tests =
+    next line_count (next (naming list)
+    (next (conditions_stage tests) (next (writing list) (next (limits list) (next (closing list) leaving)))))
 
 -- the two schemas with the conditions and these rules
 abbrev pub with_rules : List RowTest → TextsBetween → List Rule → Mapping
-with_rules tests b R = record { source = b.source; target = b.target; conditions = conditions_of b.source tests b.conditions; rules = R }
+with_rules tests b R =
+    record {
+      source = b.source;
+      target = b.target;
+      conditions = conditions_of b.source tests b.conditions;
+      rules = R;
+    }
 
 abbrev pub mapping_of : List Conversion → List RowTest → Stage AcceptFault TextsBetween Mapping
 mapping_of list tests = into (with_rules tests) (taking list tests)
 
 -- ---- the mapping of what a text says
 
--- What a text says can be taken for a mapping: its sets have few keys, dependencies and refs, and each hand-written rule is whole and
--- has few cells.
+-- What a text says can be taken for a mapping: its sets have few keys, dependencies and refs, and each hand-written
+-- rule is whole and has few cells.
 pub record IsAcceptable (m : MappingText) : Type 0 where
   pub source : HasFewRules m.source
   pub target : HasFewRules m.target
@@ -123,7 +140,8 @@ target_names = checking (λ m. NameRefused m.target) (λ m. NoneReserved m.targe
 
 -- the lines, conditions and rules of what a text says
 abbrev pub between_of : MappingText → TextsBetween
-between_of m = record { source = m.source; target = m.target; lines = m.lines; conditions = m.conditions; by_hand = m.rules }
+between_of m =
+    record { source = m.source; target = m.target; lines = m.lines; conditions = m.conditions; by_hand = m.rules }
 
 abbrev pub said_rules : List Conversion → List RowTest → Stage AcceptFault MappingText Mapping
 said_rules list tests = over between_of (mapping_of list tests)

@@ -19,8 +19,9 @@ use Rattle.clio_accept.specs.declared.mapping.Mapping.{Mapping}
 use Rattle.clio_accept.specs.Accepting.{accepting}
 use Rattle.clio_accept.specs.Mapping.{NoneReserved}
 
--- Both schemas are faultless and their names are words; each condition is about a column of the source and has a listed row test; not too many rules are left; each fits the schemas, is closed under the
--- links of the target, and has conversions of the list alone, each of as many arguments as it takes.
+-- Both schemas are faultless and their names are words; each condition is about a column of the source and has a
+-- listed row test; not too many rules are left; each fits the schemas, is closed under the links of the target, and
+-- has conversions of the list alone, each of as many arguments as it takes.
 pub record MappingFits (list : List Conversion) (tests : List RowTest) (M : Mapping) : Type 0 where
   pub source : IsFaultless M.source
   pub target : IsFaultless M.target
@@ -41,15 +42,20 @@ OneAcceptedMapping = (list : List Conversion) (tests : List RowTest) → PassesO
 
 -- a text is accepted or refused for one reason, and never both
 abbrev pub AcceptedOrRefused : Type 0
-AcceptedOrRefused = (list : List Conversion) (tests : List RowTest) → IsDecided (λ e f. e ≡ f) (λ text. Unit {0}) (accepting list tests)
+AcceptedOrRefused =
+    (list : List Conversion) (tests : List RowTest)
+    → IsDecided (λ e f. e ≡ f) (λ text. Unit {0}) (accepting list tests)
 
--- an accepted mapping has two schemas, and conditions and rules that fit them, of a text of fewer than 4,294,967,295 bytes
+-- an accepted mapping has two schemas, and conditions and rules that fit them,
+-- of a text of fewer than 4,294,967,295 bytes
 abbrev pub AcceptedFits : Type 0
 AcceptedFits =
-    (list : List Conversion) (tests : List RowTest) (c : World) (text : List ℕ) (M : Mapping) → length text < 2 ^ 32 - 1 → (accepting list tests).passes c text M
+    (list : List Conversion) (tests : List RowTest) (c : World) (text : List ℕ) (M : Mapping)
+    → length text < 2 ^ 32 - 1 → (accepting list tests).passes c text M
     → MappingFits list tests M
 
 -- no target set of an accepted mapping has a reserved name
 abbrev pub AcceptedNamesAreFree : Type 0
 AcceptedNamesAreFree =
-    (list : List Conversion) (tests : List RowTest) (c : World) (text : List ℕ) (M : Mapping) → (accepting list tests).passes c text M → NoneReserved M.target
+    (list : List Conversion) (tests : List RowTest) (c : World) (text : List ℕ) (M : Mapping)
+    → (accepting list tests).passes c text M → NoneReserved M.target

@@ -84,11 +84,13 @@ target_refusal schema_faults.Memory = faults.Memory
 
 -- what lines between two schemas stand for: the rules of their kept candidates, in order
 abbrev pub rules_of_lines : List Conversion → Forest → Forest → List LineText → List Rule
-rules_of_lines list source target lines = kept_rules (lines_of source target list lines) (model_tables source) (model_tables target)
+rules_of_lines list source target lines =
+    kept_rules (lines_of source target list lines) (model_tables source) (model_tables target)
 
 -- the first limit that lines between two schemas pass
 abbrev pub limit_of : List Conversion → Forest → Forest → List LineText → Option Limit
-limit_of list source target lines = passed_limit (lines_of source target list lines) (model_tables source) (model_tables target)
+limit_of list source target lines =
+    passed_limit (lines_of source target list lines) (model_tables source) (model_tables target)
 
 -- ---- hand-written rules
 
@@ -111,10 +113,12 @@ AreClosings schema (d ∷ ds) (e ∷ es) = IsNarrowClosing schema d e × AreClos
 
 -- a rule is too wide: its premise has too many atoms, or each closing of its conclusion has
 abbrev pub IsTooWide : List Table → Rule → Type 0
-IsTooWide schema d = (OCCURRENCES < length d.premise) ⊎ ((E : List Atom) → IsClosing schema d.conclusion E → OCCURRENCES < length E)
+IsTooWide schema d =
+    (OCCURRENCES < length d.premise) ⊎ ((E : List Atom) → IsClosing schema d.conclusion E → OCCURRENCES < length E)
 
 -- the rules of lines, and after them the closed hand-written rules
-pub record AreRulesOf (list : List Conversion) (source target : Forest) (lines : List LineText) (by_hand : List RuleText) (R : List Rule) : Type 0 where
+pub record AreRulesOf (list : List Conversion) (source target : Forest) (lines : List LineText)
+    (by_hand : List RuleText) (R : List Rule) : Type 0 where
   pub closed : List Rule
   pub closings : AreClosings (model_tables target) (written_of list source target by_hand) closed
   pub are : R ≡ rules_of_lines list source target lines ++ closed
@@ -134,23 +138,28 @@ NameRefused f e = (name : List ℕ) × IsFirstReserved f name × (e ≡ faults.M
 
 -- there are too many lines and conditions
 abbrev pub LinesRefused : List LineText → List OnlyText → AcceptFault → Type 0
-LinesRefused lines conditions e = (LINES < length lines + length conditions) × (e ≡ faults.Limit (record { what = Lines; number = LINES }))
+LinesRefused lines conditions e =
+    (LINES < length lines + length conditions) × (e ≡ faults.Limit (record { what = Lines; number = LINES }))
 
 -- a word of a line names nothing, or a conversion has another number of arguments
 abbrev pub NamingRefused : List Conversion → Forest → Forest → List LineText → AcceptFault → Type 0
-NamingRefused list source target lines e = (k : TextFault) × (lines_fault source target list lines ≡ Some k) × (e ≡ text_refusal k)
+NamingRefused list source target lines e =
+    (k : TextFault) × (lines_fault source target list lines ≡ Some k) × (e ≡ text_refusal k)
 
 -- a word of a condition names nothing
 abbrev pub TestingRefused : List RowTest → Forest → List OnlyText → AcceptFault → Type 0
-TestingRefused tests source conditions e = (k : TextFault) × (conditions_fault source tests conditions ≡ Some k) × (e ≡ text_refusal k)
+TestingRefused tests source conditions e =
+    (k : TextFault) × (conditions_fault source tests conditions ≡ Some k) × (e ≡ text_refusal k)
 
 -- a hand-written rule has a fault
 abbrev pub WritingRefused : List Conversion → Forest → Forest → List RuleText → AcceptFault → Type 0
-WritingRefused list source target by_hand e = (k : TextFault) × (rules_fault source target list by_hand ≡ Some k) × (e ≡ text_refusal k)
+WritingRefused list source target by_hand e =
+    (k : TextFault) × (rules_fault source target list by_hand ≡ Some k) × (e ≡ text_refusal k)
 
 -- the lines pass a limit
 abbrev pub LimitRefused : List Conversion → Forest → Forest → List LineText → AcceptFault → Type 0
-LimitRefused list source target lines e = (l : Limit) × (limit_of list source target lines ≡ Some l) × (e ≡ faults.Limit l)
+LimitRefused list source target lines e =
+    (l : Limit) × (limit_of list source target lines ≡ Some l) × (e ≡ faults.Limit l)
 
 -- what is answered of a rule that is too wide
 abbrev pub TooWide : AcceptFault
@@ -170,4 +179,5 @@ frozen_cells = FROZEN_CELLS
 
 -- a rule that pruning tests has a frozen premise with too many canonical cells
 abbrev pub FrozenRefused : List Rule → AcceptFault → Type 0
-FrozenRefused R e = PruningPassesLimit frozen_cells R × (e ≡ faults.Limit (record { what = FrozenCells; number = frozen_cells }))
+FrozenRefused R e =
+    PruningPassesLimit frozen_cells R × (e ≡ faults.Limit (record { what = FrozenCells; number = frozen_cells }))

@@ -23,7 +23,8 @@ abbrev pub target_front : Text → Text
 target_front direction = direction ++ codes "_target_"
 
 -- two instances that refute a direction: a file for each table of the first, and then for each of the second
-pub record AreRefutingFiles (direction : Text) (source target : Forest) (I K : List TableRows) (files : List PrintedFile) : Type 0 where
+pub record AreRefutingFiles (direction : Text) (source target : Forest) (I K : List TableRows)
+    (files : List PrintedFile) : Type 0 where
   pub sources : List PrintedFile
   pub sources_are : AreTableFiles (source_front direction) 0 (tables_of source) I sources
   pub targets : List PrintedFile
@@ -33,7 +34,8 @@ pub record AreRefutingFiles (direction : Text) (source target : Forest) (I K : L
 -- the files of a direction: none if it is implied
 abbrev pub AreDirectionFiles : Text → Forest → Forest → Answer → List PrintedFile → Type 0
 AreDirectionFiles direction source target answers.Implies files = files ≡ []
-AreDirectionFiles direction source target (answers.Refuted rule I K) files = AreRefutingFiles direction source target I K files
+AreDirectionFiles direction source target (answers.Refuted rule I K) files =
+    AreRefutingFiles direction source target I K files
 
 -- the files of a comparison: those of its two directions
 pub record AreComparedFiles (source target : Forest) (c : Comparison) (files : List PrintedFile) : Type 0 where
@@ -60,7 +62,8 @@ compared_text c files =
 -- the instances have the tables of the schemas
 abbrev pub FitsAnswer : Forest → Forest → Answer → Type 0
 FitsAnswer source target answers.Implies = Unit {0}
-FitsAnswer source target (answers.Refuted rule I K) = (widths I ≡ schema_widths source) × (widths K ≡ schema_widths target)
+FitsAnswer source target (answers.Refuted rule I K) =
+    (widths I ≡ schema_widths source) × (widths K ≡ schema_widths target)
 
 -- no table's text begins with a byte order mark
 abbrev pub HaveNoMarks : Forest → Type 0
@@ -74,7 +77,8 @@ pub record FitsComparison (source target : Forest) (c : Comparison) : Type 0 whe
   pub target_marks : HaveNoMarks target
 
 -- the files of a direction are added
-pub record AddsDirection (direction : Text) (source target : Forest) (answer : Answer) (old new : List PrintedFile) : Type 0 where
+pub record AddsDirection (direction : Text) (source target : Forest) (answer : Answer)
+    (old new : List PrintedFile) : Type 0 where
   pub files : List PrintedFile
   pub are : AreDirectionFiles direction source target answer files
   pub is : new ≡ old ++ files

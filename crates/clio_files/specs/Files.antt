@@ -37,9 +37,10 @@ AreTableFiles front n [] T (f ∷ fs) = ⊥
 AreTableFiles front n (t ∷ ts) T [] = ⊥
 AreTableFiles front n (t ∷ ts) T (f ∷ fs) = IsTableFile front t (rows_of T n) f × AreTableFiles front (suc n) ts T fs
 
--- the files of an exchange: the rules, their script, each target table, what the nulls of the target stand for, the fold, and, if
--- nested ones are asked for, each root of the target as a document
-pub record AreFiles (source target : Forest) (list : List Conversion) (mode : Mode) (nested : Bool) (R : List Rule) (e : Exchange)
+-- the files of an exchange: the rules, their script, each target table, what the nulls of the target stand for, the
+-- fold, and, if nested ones are asked for, each root of the target as a document
+pub record AreFiles (source target : Forest) (list : List Conversion) (mode : Mode) (nested : Bool)
+    (R : List Rule) (e : Exchange)
     (files : List PrintedFile) : Type 0 where
   pub tables : List PrintedFile
   pub tables_are : AreTableFiles [] 0 (tables_of target) e.target tables
@@ -66,8 +67,8 @@ summary_of files = flat_map summary_line files
 abbrev pub contents_of : List PrintedFile → Text
 contents_of files = flat_map (λ (f : PrintedFile). f.bytes) files
 
--- The target has the tables of its schema; no table's text begins with a byte order mark; and for each null of the target the
--- matches have its place, with as many texts as its rule has exported variables.
+-- The target has the tables of its schema; no table's text begins with a byte order mark; and for each null of the
+-- target the matches have its place, with as many texts as its rule has exported variables.
 pub record FitsFiles (R : List Rule) (target : Forest) (e : Exchange) : Type 0 where
   pub widths_are : widths e.target ≡ schema_widths target
   pub no_marks : Each (tables_of target) (λ (t : TableOf). HasNoMark t.columns)

@@ -25,8 +25,10 @@ FilesExist =
 -- an exchange has no two lists of files
 abbrev pub FilesAreOne : Type 0
 FilesAreOne =
-    (source target : Forest) (list : List Conversion) (mode : Mode) (nested : Bool) (R : List Rule) (e : Exchange) (files others : List PrintedFile)
-    → AreFiles source target list mode nested R e files → AreFiles source target list mode nested R e others → files ≡ others
+    (source target : Forest) (list : List Conversion) (mode : Mode) (nested : Bool) (R : List Rule)
+    (e : Exchange) (files others : List PrintedFile)
+    → AreFiles source target list mode nested R e files
+    → AreFiles source target list mode nested R e others → files ≡ others
 
 -- ---- names
 
@@ -37,7 +39,8 @@ IsFreeName name = (¬ (name ≡ codes "nulls")) × (¬ (name ≡ codes "fold"))
 -- no two files have one name, if all tables have free names
 abbrev pub NamesAreApart : Type 0
 NamesAreApart =
-    (source target : Forest) (list : List Conversion) (mode : Mode) (nested : Bool) (R : List Rule) (e : Exchange) (files : List PrintedFile)
+    (source target : Forest) (list : List Conversion) (mode : Mode) (nested : Bool) (R : List Rule)
+    (e : Exchange) (files : List PrintedFile)
     → AreTables (tables_of target) → ((t : ℕ) → t < length (tables_of target) → IsFreeName (schema_table target t).name)
     → AreFiles source target list mode nested R e files → Distinct (map (λ (f : PrintedFile). f.name) files)
 
@@ -51,8 +54,10 @@ HaveColumns (answers.Refuted rule I K) = Each (facts I) (λ f. 1 ≤ length f.ro
 -- a comparison that fits its schemas has files
 abbrev pub ComparedFilesExist : Type 0
 ComparedFilesExist =
-    (source target : Forest) (c : Comparison) → FitsComparison source target c → AreTables (tables_of source) → AreTables (tables_of target)
-    → HaveColumns c.forward → HaveColumns c.backward → (files : List PrintedFile) × AreComparedFiles source target c files
+    (source target : Forest) (c : Comparison) → FitsComparison source target c
+    → AreTables (tables_of source) → AreTables (tables_of target)
+    → HaveColumns c.forward → HaveColumns c.backward
+    → (files : List PrintedFile) × AreComparedFiles source target c files
 
 -- a comparison has no two lists of files
 abbrev pub ComparedFilesAreOne : Type 0
@@ -63,5 +68,6 @@ ComparedFilesAreOne =
 -- no two files of a comparison have one name
 abbrev pub ComparedNamesAreApart : Type 0
 ComparedNamesAreApart =
-    (source target : Forest) (c : Comparison) (files : List PrintedFile) → AreTables (tables_of source) → AreTables (tables_of target)
+    (source target : Forest) (c : Comparison) (files : List PrintedFile) → AreTables (tables_of source)
+    → AreTables (tables_of target)
     → AreComparedFiles source target c files → Distinct (map (λ (f : PrintedFile). f.name) files)

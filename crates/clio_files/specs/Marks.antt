@@ -21,4 +21,5 @@ AreMarks first seen marks = (k : ℕ) → k < length marks → (slice_index_or m
 
 -- the null's number has a mark
 abbrev pub IsMarked : List Value → ℕ → List Bool → NullId → Type 0
-IsMarked symbols first marks n = (k : ℕ) × (slice_index_or marks k false ≡ true) × (value_of symbols (first + k) ≡ Null n)
+IsMarked symbols first marks n =
+    (k : ℕ) × (slice_index_or marks k false ≡ true) × (value_of symbols (first + k) ≡ Null n)

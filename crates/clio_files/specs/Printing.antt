@@ -20,7 +20,8 @@ abbrev pub AreRecords : Records → List (List Text) → Type 0
 AreRecords r records = HasFields r records []
 
 -- the files of these tables are added, under names with this in front
-pub record AddsTables (front : Text) (ts : List TableOf) (T : List TableRows) (old new : List PrintedFile) : Type 0 where
+pub record AddsTables (front : Text) (ts : List TableOf) (T : List TableRows)
+    (old new : List PrintedFile) : Type 0 where
   pub tables : List PrintedFile
   pub are : AreTableFiles front 0 ts T tables
   pub is : new ≡ old ++ tables

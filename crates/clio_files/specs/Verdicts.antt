@@ -12,8 +12,10 @@ use Rattle.dx_judge.specs.declared.verdict.Why.TheVariants as whys
 -- why a target is no solution, with the names of its schema
 abbrev pub why_text : Forest → Why → Text
 why_text target (whys.Rule rule place) = codes "rule " ++ (decimal rule ++ (codes " place " ++ decimal place))
-why_text target (whys.Key table key left right column) = codes "key " ++ (decimal key ++ (codes " of table " ++ table_name target table))
-why_text target (whys.Link table row link) = codes "link " ++ (decimal link ++ (codes " of table " ++ table_name target table))
+why_text target (whys.Key table key left right column) =
+    codes "key " ++ (decimal key ++ (codes " of table " ++ table_name target table))
+why_text target (whys.Link table row link) =
+    codes "link " ++ (decimal link ++ (codes " of table " ++ table_name target table))
 
 -- the line of a verdict
 abbrev pub verdict_text : Forest → Verdict → Text

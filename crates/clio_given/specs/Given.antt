@@ -1,5 +1,6 @@
 -- The given target of files: one file for each table of a schema, of as many bytes as are left.
-use Rattle.std.specs.Prelude.{◌≡◌, ◌⊎◌, ◌-◌, ℕ, suc, List, [], ◌++◌, Some, length, take, slice_get, nat_lt, codes, if◌then◌else◌, Result, Ok, Err}
+use Rattle.std.specs.Prelude.{◌≡◌, ◌⊎◌, ◌-◌, ℕ, suc, List, [], ◌++◌, Some, length, take}
+use Rattle.std.specs.Prelude.{slice_get, nat_lt, codes, if◌then◌else◌, Result, Ok, Err}
 use Rattle.std.specs.List.{AllZip, range_with_len}
 use Rattle.dx_base.specs.Members.{Each}
 use Rattle.dx_base.specs.declared.file.Count.TheVariants.{GivenCells}
@@ -58,29 +59,45 @@ given_name table = codes "given/" ++ csv_name table
 -- the bytes are a table, of which record number r is the first with a field that is no value's text
 abbrev pub HasNoValue : Forest → ℕ → List ℕ → ℕ → Type 0
 HasNoValue f table bytes r =
-    (rows : List (List Value)) × AreTableRecords (table_records bytes) (schema_table f table).columns rows × IsFirstNoRow rows r
+    (rows : List (List Value))
+    × AreTableRecords (table_records bytes) (schema_table f table).columns rows × IsFirstNoRow rows r
 
 -- they have this fault: they are no table, or a record of it has no values
 abbrev pub IsGivenRowsFault : Forest → ℕ → List ℕ → RowsFault → Type 0
-IsGivenRowsFault f table bytes e = HaveFault flat f table bytes e ⊎ ((r : ℕ) × HasNoValue f table bytes r × (e ≡ NoValue r))
+IsGivenRowsFault f table bytes e =
+    HaveFault flat f table bytes e ⊎ ((r : ℕ) × HasNoValue f table bytes r × (e ≡ NoValue r))
 
 abbrev pub IsGivenFault : Forest → ℕ → ReadState × List ℕ → SourceRefusal → Type 0
-IsGivenFault f table p e = (k : RowsFault) × IsGivenRowsFault f table p.1 k × (e ≡ refusals.Rows (given_name (schema_table f table).name) k)
+IsGivenFault f table p e =
+    (k : RowsFault) × IsGivenRowsFault f table p.1 k
+    × (e ≡ refusals.Rows (given_name (schema_table f table).name) k)
 
 -- they have none, and these are the values of the table's rows
 abbrev pub SayRows : Forest → ℕ → List ℕ → List (List Value) → Type 0
 SayRows f table bytes rows =
-    (fields : List (List Value)) × AreTableRecords (table_records bytes) (schema_table f table).columns fields × AreValuesOf fields rows
+    (fields : List (List Value))
+    × AreTableRecords (table_records bytes) (schema_table f table).columns fields × AreValuesOf fields rows
 
 abbrev pub SaysGivenRows : Forest → ℕ → ReadState × List ℕ → ReadState × List Fact → Type 0
 SaysGivenRows f table p q =
     (rows : List (List Value)) × SayRows f table p.1 rows
-    × (q ≡ (record { facts = p.0.facts; bytes_left = p.0.bytes_left - length p.1; cells_left = p.0.cells_left }, as_facts table rows))
+    × (q ≡ (
+      record {
+        facts = p.0.facts;
+        bytes_left = p.0.bytes_left - length p.1;
+        cells_left = p.0.cells_left;
+      },
+      as_facts table rows,
+    ))
 
 -- the facts after those that were read before them, within the cells that are left
 abbrev pub with_given_facts : Forest → ReadState × List Fact → Result ReadState SourceRefusal
 with_given_facts f q = if nat_lt q.0.cells_left (fact_cells f q.1) then Err too_many_given_cells
-    else Ok (record { facts = q.0.facts ++ q.1; bytes_left = q.0.bytes_left; cells_left = q.0.cells_left - fact_cells f q.1 })
+    else Ok (record {
+      facts = q.0.facts ++ q.1;
+      bytes_left = q.0.bytes_left;
+      cells_left = q.0.cells_left - fact_cells f q.1;
+    })
 
 -- what is read of the bytes of a table's file
 abbrev pub given_loading : Forest → ℕ → Stage SourceRefusal (ReadState × List ℕ) ReadState
@@ -111,4 +128,6 @@ pub record TargetRequest : Type 0 where
 
 -- the given files of the tables of a schema, in order, and the instance of their rows
 abbrev pub given_stages : Stage SourceRefusal TargetRequest (List TableRows)
-given_stages = by (λ (w : TargetRequest). over (λ (_ : TargetRequest). none_read w.bytes_left) (next (given_files_stages w.schema) (given_storing w.schema)))
+given_stages =
+    by (λ (w : TargetRequest). over (λ (_ : TargetRequest). none_read w.bytes_left)
+    (next (given_files_stages w.schema) (given_storing w.schema)))

@@ -17,4 +17,6 @@ GivenOrRefused = IsDecided (λ e f. e ≡ f) (λ (w : TargetRequest). Unit {0}) 
 
 -- what files say is an instance of the schema
 abbrev pub GivenFits : Type 0
-GivenFits = (c : World) (w : TargetRequest) (I : List TableRows) → given_stages.passes c w I → IsInstance (model_tables w.schema) (facts I)
+GivenFits =
+    (c : World) (w : TargetRequest) (I : List TableRows) → given_stages.passes c w I
+    → IsInstance (model_tables w.schema) (facts I)

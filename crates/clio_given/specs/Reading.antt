@@ -33,7 +33,12 @@ IsNoValueFault rows no_values.Memory = Unit {0}
 
 -- the facts that are shown, and what may still come
 abbrev pub read_of : Reading → ReadState
-read_of r = record { facts = facts (shown_tables r.symbols r.tables.items); bytes_left = r.bytes_left; cells_left = r.cells_left }
+read_of r =
+    record {
+      facts = facts (shown_tables r.symbols r.tables.items);
+      bytes_left = r.bytes_left;
+      cells_left = r.cells_left;
+    }
 
 -- the first n tables of a schema were come to: as many columns as these have, and numbers of the symbols
 pub record GivenReadFits (f : Forest) (n : ℕ) (r : Reading) : Type 0 where
@@ -47,6 +52,7 @@ shown_result (Err e) = Err e
 
 -- why the rows of a file's bytes were not read
 abbrev pub GivenIsNotRead : Forest → ℕ → List ℕ → List ℕ → Stop SourceRefusal → Type 0
-GivenIsNotRead f table bytes name (stops.Refused e) = (k : RowsFault) × IsGivenRowsFault f table bytes k × (e ≡ refusals.Rows name k)
+GivenIsNotRead f table bytes name (stops.Refused e) =
+    (k : RowsFault) × IsGivenRowsFault f table bytes k × (e ≡ refusals.Rows name k)
 GivenIsNotRead f table bytes name (stops.Failed n) = ⊥
 GivenIsNotRead f table bytes name stops.Memory = Unit {0}

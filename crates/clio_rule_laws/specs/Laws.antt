@@ -17,28 +17,33 @@ use Rattle.clio_accept.specs.Accepting.{accepting}
 abbrev pub rule_lines : List Conversion → Mapping → Text
 rule_lines list M = codes "\n" ++ rules_text M.source M.target list M.rules
 
--- the lines of the rules are read as these rules: after the text of the mapping, and after each text that says its sets alone
+-- the lines of the rules are read as these rules: after the text of the mapping,
+-- and after each text that says its sets alone
 pub record AreShownAgain (list : List Conversion) (text : Text) (M : Mapping) : Type 0 where
   pub said : MappingText
   pub is_text : IsMappingText text said
   pub source : said.source ≡ M.source
   pub target : said.target ≡ M.target
   pub behind : AreReadBehind said list M.rules (text ++ rule_lines list M)
-  pub alone : (version : ℕ) (sets : Text) → IsMappingText sets (sides version M.source M.target) → AreReadBehind (sides version M.source M.target) list M.rules (sets ++ rule_lines list M)
+  pub alone : (version : ℕ) (sets : Text) → IsMappingText sets (sides version M.source M.target)
+      → AreReadBehind (sides version M.source M.target) list M.rules (sets ++ rule_lines list M)
 
 -- the rules of each accepted text of fewer than 4,294,967,295 bytes are read again
 abbrev pub ShownRulesAreReadAgain : Type 0
 ShownRulesAreReadAgain =
-    (list : List Conversion) (tests : List RowTest) (c : World) (text : Text) (M : Mapping) → IsOffer list → length text < 2 ^ 32 - 1 → (accepting list tests).passes c text M
+    (list : List Conversion) (tests : List RowTest) (c : World) (text : Text) (M : Mapping)
+    → IsOffer list → length text < 2 ^ 32 - 1 → (accepting list tests).passes c text M
     → AreShownAgain list text M
 
 -- the mapping without its conditions
 abbrev pub unconditional : Mapping → Mapping
 unconditional M = record M { conditions = [] }
 
--- and each text that says its sets alone, in whatever version, with the lines of its rules after it, is accepted with the same
--- mapping, without its conditions
+-- and each text that says its sets alone, in whatever version, with the lines of its rules after it, is accepted with
+-- the same mapping, without its conditions
 abbrev pub ShownIsAccepted : Type 0
 ShownIsAccepted =
-    (list : List Conversion) (tests : List RowTest) (c : World) (text sets : Text) (M : Mapping) (version : ℕ) → IsOffer list → length text < 2 ^ 32 - 1 → (accepting list tests).passes c text M
-    → IsMappingText sets (sides version M.source M.target) → (accepting list tests).passes c (sets ++ rule_lines list M) (unconditional M)
+    (list : List Conversion) (tests : List RowTest) (c : World) (text sets : Text) (M : Mapping)
+    (version : ℕ) → IsOffer list → length text < 2 ^ 32 - 1 → (accepting list tests).passes c text M
+    → IsMappingText sets (sides version M.source M.target)
+    → (accepting list tests).passes c (sets ++ rule_lines list M) (unconditional M)

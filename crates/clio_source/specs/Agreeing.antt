@@ -11,11 +11,13 @@ use Rattle.dx_instance.specs.Stored.{TableRows, facts, widths}
 use Rattle.dx_used.specs.Used.{AgreeOnUsed, Marks, fact_blanked}
 use Rattle.clio_source.specs.Source.{flat, shape_at, roots}
 
--- The stage ran so and passes an instance, with which the one that was read agrees on the used columns, and a number, which is the one
--- beside what was read.
-abbrev pub RanAgreeing : {E A : Type 0} → Marks → Stage E A (List TableRows × ℕ) → A → Result (List TableRows × ℕ) (Stop E) → InputState → InputState → Type 0
+-- The stage ran so and passes an instance, with which the one that was read agrees on the used columns, and a number,
+-- which is the one beside what was read.
+abbrev pub RanAgreeing : {E A : Type 0} → Marks → Stage E A (List TableRows × ℕ) → A
+    → Result (List TableRows × ℕ) (Stop E) → InputState → InputState → Type 0
 RanAgreeing used s a (Ok q) old new =
-    (I : List TableRows) × AgreeOnUsed used (facts I) (facts q.0) × (widths I ≡ widths q.0) × Ran s a (Ok (I, q.1)) old new
+    (I : List TableRows) × AgreeOnUsed used (facts I) (facts q.0) × (widths I ≡ widths q.0)
+    × Ran s a (Ok (I, q.1)) old new
 RanAgreeing used s a (Err e) old new = Ran s a (Err e) old new
 
 -- the table of a flat root, whose file is a table

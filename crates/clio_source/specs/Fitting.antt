@@ -43,18 +43,21 @@ abbrev pub UnusedAreBlank : Marks → Forest → Reading → Type 0
 UnusedAreBlank used f r = AreBlank used f (facts (shown_tables r.symbols r.tables.items))
 
 -- the stage ran so, and the tables agree with what it passes
-abbrev pub RanTo : {A : Type 0} → Marks → Stage SourceRefusal A ReadState → A → Result Reading (Stop SourceRefusal) → InputState → InputState → Type 0
+abbrev pub RanTo : {A : Type 0} → Marks → Stage SourceRefusal A ReadState → A
+    → Result Reading (Stop SourceRefusal) → InputState → InputState → Type 0
 RanTo used s a (Ok r) old new = (q : ReadState) × Holds used r q × Ran s a (Ok q) old new
 RanTo used s a (Err e) old new = Ran s a (Err e) old new
 
 -- the stage gives it in every world, and the tables agree with it
-abbrev pub GivesTo : {A : Type 0} → Marks → Stage SourceRefusal A ReadState → A → Result Reading (Stop SourceRefusal) → Type 0
+abbrev pub GivesTo : {A : Type 0} → Marks → Stage SourceRefusal A ReadState → A
+    → Result Reading (Stop SourceRefusal) → Type 0
 GivesTo used s a (Ok r) = (q : ReadState) × Holds used r q × Gives s a (Ok q)
 GivesTo used s a (Err e) = Gives s a (Err e)
 
 -- why the facts of a file's bytes were not read
 abbrev pub NotRead : RootShape → Forest → ℕ → List ℕ → List ℕ → Stop SourceRefusal → Type 0
-NotRead form f root bytes name (stops.Refused e) = (k : RowsFault) × HaveFault form f root bytes k × (e ≡ refusals.Rows name k)
+NotRead form f root bytes name (stops.Refused e) =
+    (k : RowsFault) × HaveFault form f root bytes k × (e ≡ refusals.Rows name k)
 NotRead form f root bytes name (stops.Failed n) = ⊥
 NotRead form f root bytes name stops.Memory = Unit {0}
 
@@ -74,8 +77,9 @@ pub record CanTake (ts : List NumberTable) (first : ℕ) (said : List Fact) : Ty
   pub wide : Each said (λ fact. length fact.row ≡ (numbers_of_table ts fact.table).width)
   pub empty : (t : ℕ) → first ≤ t → (numbers_of_table ts t).rows ≡ []
 
--- A root can be added to these tables with these facts: they are those of the roots before it, with numbers of the symbols; the
--- facts fit the schema, each is of the root or of one of its inner sets, and they have no more cells than a source may have.
+-- A root can be added to these tables with these facts: they are those of the roots before it, with numbers of the
+-- symbols; the facts fit the schema, each is of the root or of one of its inner sets,
+-- and they have no more cells than a source may have.
 pub record CanAddRoot (f : Forest) (root : ℕ) (S : List Value) (ts : List NumberTable) (said : List Fact) : Type 0 where
   pub inside : root < length (tables_of f)
   pub widths : map (λ (t : NumberTable). t.width) ts ≡ take root (schema_widths f)
@@ -91,7 +95,8 @@ pub record AddsFacts (S T : List Value) (old new : List NumberTable) (said : Lis
   pub below : Each new (NumberRowsFit (length T))
 
 -- empty tables of a root came, up to the table of a schema with this number, and then these facts
-pub record AddsRoot (f : Forest) (last : ℕ) (S T : List Value) (old new : List NumberTable) (said : List Fact) : Type 0 where
+pub record AddsRoot (f : Forest) (last : ℕ) (S T : List Value) (old new : List NumberTable)
+    (said : List Fact) : Type 0 where
   pub between : List NumberTable
   pub empty : AddsEmpty f last old between
   pub put : AddsFacts S T between new said

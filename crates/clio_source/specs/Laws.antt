@@ -45,5 +45,6 @@ RootsHaveNoParent = (f : Forest) → AreRootSets f
 -- if no column has a mark, what is read has just the facts of what the stages pass
 abbrev pub AllIsRead : Type 0
 AllIsRead =
-    (passes : Passes) (w : SourceRequest) (J : List TableRows) (left : ℕ) (old new : InputState) → RanAgreeing [] (source_left passes) w (Ok (J, left)) old new
+    (passes : Passes) (w : SourceRequest) (J : List TableRows) (left : ℕ) (old new : InputState)
+    → RanAgreeing [] (source_left passes) w (Ok (J, left)) old new
     → (I : List TableRows) × (facts I ≈ facts J) × Ran (source_left passes) w (Ok (I, left)) old new

@@ -1,5 +1,6 @@
 -- The source of files, one stage after the other.
-use Rattle.std.specs.Prelude.{◌≡◌, ◌-◌, ◌<◌, ℕ, List, [], ◌++◌, length, map, sum_by, nat_lt, codes, if◌then◌else◌, None, Result, Ok, Err}
+use Rattle.std.specs.Prelude.{◌≡◌, ◌-◌, ◌<◌, ℕ, List, [], ◌++◌, length, map, sum_by}
+use Rattle.std.specs.Prelude.{nat_lt, codes, if◌then◌else◌, None, Result, Ok, Err}
 use Rattle.dx_base.specs.Members.{◌≈◌}
 use Rattle.dx_base.specs.declared.file.Count.TheVariants.{DataBytes, SourceCells}
 use Rattle.dx_base.specs.declared.limits.TheConstants.{DATA_BYTES, SOURCE_CELLS}
@@ -82,12 +83,14 @@ as_facts table rows = map (λ (row : List Value). record { table = table; row = 
 -- these facts: those of the rows of the table, or those of the document
 abbrev pub SayFacts : RootShape → Forest → ℕ → List ℕ → List Fact → Type 0
 SayFacts flat f root bytes facts =
-    (rows : List (List Value)) × AreTableRecords (table_records bytes) (schema_table f root).columns rows × (facts ≡ as_facts root rows)
+    (rows : List (List Value)) × AreTableRecords (table_records bytes) (schema_table f root).columns rows
+    × (facts ≡ as_facts root rows)
 SayFacts nested f root bytes facts = SaysFacts bytes f root facts
 
 -- or that they are no such file, with its first fault
 abbrev pub HaveFault : RootShape → Forest → ℕ → List ℕ → RowsFault → Type 0
-HaveFault flat f root bytes e = (k : RowKind) × IsAtFault (table_records bytes) (schema_table f root).columns k × (e ≡ Csv k)
+HaveFault flat f root bytes e =
+    (k : RowKind) × IsAtFault (table_records bytes) (schema_table f root).columns k × (e ≡ Csv k)
 HaveFault nested f root bytes e = (k : JsonKind) × IsFirstDocumentFault bytes f root k × (e ≡ Json k)
 
 -- ---- one root
@@ -105,11 +108,13 @@ at_start = record { facts = []; bytes_left = data_bytes; cells_left = source_cel
 -- the file of this name, of at most as many bytes as are left, beside what was read before it
 abbrev pub fetching : List ℕ → Stage SourceRefusal ReadState (ReadState × List ℕ)
 fetching name =
-    into (λ (r : ReadState) (bytes : List ℕ). (r, bytes)) (by (λ (r : ReadState). file name r.bytes_left (refusals.Rows name Absent) too_many_bytes))
+    into (λ (r : ReadState) (bytes : List ℕ). (r, bytes))
+    (by (λ (r : ReadState). file name r.bytes_left (refusals.Rows name Absent) too_many_bytes))
 
 -- its bytes have a fault
 abbrev pub IsSourceFault : RootShape → Forest → ℕ → ReadState × List ℕ → SourceRefusal → Type 0
-IsSourceFault form f root p e = (k : RowsFault) × HaveFault form f root p.1 k × (e ≡ refusals.Rows (named_by form (schema_table f root).name) k)
+IsSourceFault form f root p e =
+    (k : RowsFault) × HaveFault form f root p.1 k × (e ≡ refusals.Rows (named_by form (schema_table f root).name) k)
 
 -- they have none, and say these facts
 abbrev pub SaysSourceFacts : RootShape → Forest → ℕ → ReadState × List ℕ → ReadState × List Fact → Type 0
@@ -124,11 +129,16 @@ fact_cells f said = sum_by (λ (fact : Fact). length (schema_table f fact.table)
 -- the facts after those that were read before them, within the cells that are left
 abbrev pub with_facts : Forest → ReadState × List Fact → Result ReadState SourceRefusal
 with_facts f q = if nat_lt q.0.cells_left (fact_cells f q.1) then Err too_many_cells
-    else Ok (record { facts = q.0.facts ++ q.1; bytes_left = q.0.bytes_left; cells_left = q.0.cells_left - fact_cells f q.1 })
+    else Ok (record {
+      facts = q.0.facts ++ q.1;
+      bytes_left = q.0.bytes_left;
+      cells_left = q.0.cells_left - fact_cells f q.1;
+    })
 
 -- what is read of the bytes of a root's file
 abbrev pub loading : RootShape → Forest → ℕ → Stage SourceRefusal (ReadState × List ℕ) ReadState
-loading form f root = next (notions (IsSourceFault form f root) (SaysSourceFacts form f root)) (computing (with_facts f))
+loading form f root =
+    next (notions (IsSourceFault form f root) (SaysSourceFacts form f root)) (computing (with_facts f))
 
 -- a root's file, and then what is read of it
 abbrev pub reading : Forest → ℕ → Stage SourceRefusal ReadState ReadState
@@ -155,14 +165,16 @@ pub record SourceRequest : Type 0 where
   pub schema : Forest
   pub conditions : List Condition
 
--- The files of a schema's roots, and the instance of the rows that pass the conditions. All rows are read, and the cells of all count,
--- before any is left out.
+-- The files of a schema's roots, and the instance of the rows that pass the conditions. All rows are read, and the
+-- cells of all count, before any is left out.
 abbrev pub source_stages : Passes → Stage SourceRefusal SourceRequest (List TableRows)
 source_stages passes =
-    by (λ (w : SourceRequest). over (λ (_ : SourceRequest). at_start) (next (files_stages w.schema) (storing passes w.conditions w.schema)))
+    by (λ (w : SourceRequest). over (λ (_ : SourceRequest). at_start)
+    (next (files_stages w.schema) (storing passes w.conditions w.schema)))
 
 -- the same, beside the number of bytes that files read after these may have
 abbrev pub source_left : Passes → Stage SourceRefusal SourceRequest (List TableRows × ℕ)
 source_left passes =
     by (λ (w : SourceRequest). over (λ (_ : SourceRequest). at_start)
-    (next (files_stages w.schema) (into (λ (r : ReadState) (I : List TableRows). (I, r.bytes_left)) (storing passes w.conditions w.schema))))
+    (next (files_stages w.schema)
+    (into (λ (r : ReadState) (I : List TableRows). (I, r.bytes_left)) (storing passes w.conditions w.schema))))

@@ -20,7 +20,8 @@ Respects parents c = (k : ℕ) → k < length parents → c k ≡ c (slice_index
 
 -- each null is connected with that of its parent
 abbrev pub ParentsAreConnected : List Fact → List NullId → List ℕ → Type 0
-ParentsAreConnected A ns parents = (k : ℕ) → k < length parents → Connected A (null_at ns k) (null_at ns (slice_index parents k))
+ParentsAreConnected A ns parents =
+    (k : ℕ) → k < length parents → Connected A (null_at ns k) (null_at ns (slice_index parents k))
 
 -- the trees have the same numbers and roots as before
 pub record AreSameTrees (old new : List ℕ) : Type 0 where
@@ -34,7 +35,8 @@ pub record AreSameTrees (old new : List ℕ) : Type 0 where
 pub record IsInTree (parents : List ℕ) (k r : ℕ) : Type 0 where
   pub within : r < length parents
   pub respects : (c : ℕ → ℕ) → Respects parents c → c k ≡ c r
-  pub tied : (A : List Fact) (ns : List NullId) → ParentsAreConnected A ns parents → Connected A (null_at ns k) (null_at ns r)
+  pub tied : (A : List Fact) (ns : List NullId) → ParentsAreConnected A ns parents
+      → Connected A (null_at ns k) (null_at ns r)
 
 -- r is the root of that tree
 abbrev pub IsRootOf : List ℕ → ℕ → ℕ → Type 0
@@ -46,7 +48,8 @@ pub record IsTreeUnion (old new : List ℕ) (a b : ℕ) : Type 0 where
   pub falls : Falls new
   pub respects : (c : ℕ → ℕ) → Respects new c → Respects old c
   pub one : (c : ℕ → ℕ) → Respects new c → c a ≡ c b
-  pub tied : (A : List Fact) (ns : List NullId) → Connected A (null_at ns a) (null_at ns b) → ParentsAreConnected A ns old → ParentsAreConnected A ns new
+  pub tied : (A : List Fact) (ns : List NullId) → Connected A (null_at ns a) (null_at ns b)
+      → ParentsAreConnected A ns old → ParentsAreConnected A ns new
 
 -- each parent is a root
 abbrev pub IsFlat : List ℕ → Type 0

@@ -21,7 +21,8 @@ pub record JoinsRow (ns : List NullId) (row : List Value) (old new : List ℕ) :
   pub falls : Falls new
   pub respects : (c : ℕ → ℕ) → Respects new c → Respects old c
   pub one : AreOne ns new row
-  pub tied : (A : List Fact) (f : Fact) → f ∈ A → f.row ≡ row → ParentsAreConnected A ns old → ParentsAreConnected A ns new
+  pub tied : (A : List Fact) (f : Fact) → f ∈ A → f.row ≡ row → ParentsAreConnected A ns old
+      → ParentsAreConnected A ns new
 
 -- the trees of the nulls of each fact are one now, and no others
 pub record JoinsAll (A : List Fact) (ns : List NullId) (old new : List ℕ) : Type 0 where
@@ -58,9 +59,10 @@ HoldsLabel ns labels label f = (n : NullId) × (Null n ∈ f.row) × HasLabel ns
 abbrev pub block_at : List Block → ℕ → Block
 block_at bs k = slice_index_or bs k (record { nulls = []; facts = [] })
 
--- some of the nulls and facts are put into blocks, of which there is one for each place: block k has those nulls that have
--- the label k, and those facts that hold such a null
-pub record AreFilled (ns : List NullId) (labels : List ℕ) (some : List NullId) (held : List Fact) (bs : List Block) : Type 0 where
+-- some of the nulls and facts are put into blocks, of which there is one for each place: block k has those nulls that
+-- have the label k, and those facts that hold such a null
+pub record AreFilled (ns : List NullId) (labels : List ℕ) (some : List NullId) (held : List Fact)
+    (bs : List Block) : Type 0 where
   pub many : length bs ≡ length ns
   pub nulls : (k : ℕ) → k < length ns → NullsAscend (block_at bs k).nulls
       × ((n : NullId) → (n ∈ (block_at bs k).nulls) ↔ ((n ∈ some) × HasLabel ns labels k n))

@@ -57,7 +57,8 @@ abbrev pub shown_blocks : NumberedInstance → List NumberBlock → List Block
 shown_blocks N bs = map (shown_block N) bs
 
 -- some facts, and no nulls yet, are put into blocks of numbers of the instance
-pub record HoldFacts (N : NumberedInstance) (n : ℕ) (ls : List ℕ) (held : List Fact) (bs : List NumberBlock) : Type 0 where
+pub record HoldFacts (N : NumberedInstance) (n : ℕ) (ls : List ℕ) (held : List Fact)
+    (bs : List NumberBlock) : Type 0 where
   pub filled : AreFilled (nulls_from N n) ls [] held (shown_blocks N bs)
   pub within : Each bs (IsOfNumbers N)
 
@@ -66,7 +67,8 @@ abbrev pub has_numbers : NumberBlock → Bool
 has_numbers b = nat_lt 0 (length b.nulls)
 
 -- the nulls of A, and A, are put into blocks
-pub record AreBlocksOfRows (N : NumberedInstance) (first : ℕ) (rows : List At) (labels : List ℕ) (bs : List NumberBlock) : Type 0 where
+pub record AreBlocksOfRows (N : NumberedInstance) (first : ℕ) (rows : List At) (labels : List ℕ)
+    (bs : List NumberBlock) : Type 0 where
   pub some : List NullId
   pub exactly : (n : NullId) → (n ∈ some) ↔ (Null n ∈ values (facts_of N rows))
   pub filled : AreFilled (nulls_from N first) labels some (facts_of N rows) (shown_blocks N bs)

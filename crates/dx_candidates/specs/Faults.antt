@@ -50,7 +50,8 @@ ways_fault many.Memory = Memory
 
 -- a fault is want of memory, or the first limit that these lines pass between two schemas
 abbrev pub IsCandidateFault : List Line → List Table → List Table → CandFault → Type 0
-IsCandidateFault lines source target e = (e ≡ Memory) ⊎ ((l : Limit) × (passed_limit lines source target ≡ Some l) × (e ≡ TooMany l))
+IsCandidateFault lines source target e =
+    (e ≡ Memory) ⊎ ((l : Limit) × (passed_limit lines source target ≡ Some l) × (e ≡ TooMany l))
 
 -- a fault is want of memory, or this limit, which is passed
 abbrev pub IsLimitFault : Limit → Bool → CandFault → Type 0

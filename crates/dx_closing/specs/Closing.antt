@@ -1,5 +1,6 @@
 -- The closing of a conclusion along the links of a schema.
-use Rattle.std.specs.Prelude.{◌≡◌, ℕ, zero, suc, ◌+◌, Bool, true, false, cond, ◌&&◌, nat_eq, max, length, Option, Some, None, slice_get, List, [], ◌∷◌, ◌++◌, slice_index_or}
+use Rattle.std.specs.Prelude.{◌≡◌, ℕ, zero, suc, ◌+◌, Bool, true, false, cond, ◌&&◌, nat_eq, max, length}
+use Rattle.std.specs.Prelude.{Option, Some, None, slice_get, List, [], ◌∷◌, ◌++◌, slice_index_or}
 use Rattle.std.specs.List.{list_any}
 use Rattle.std.specs.Str.{bytes_eq}
 use Rattle.dx_model.specs.declared.rules.Cell.{Cell}
@@ -39,16 +40,21 @@ serves l cells a = nat_eq a.table l.table && has_cells a.cells l.to cells
 
 -- ---- what is appended
 
--- an atom more, of the table that the link refers to, with these cells in the referred columns and fresh existential variables elsewhere
+-- an atom more, of the table that the link refers to, with these cells in the
+-- referred columns and fresh existential variables elsewhere
 abbrev pub supplied : List Table → Growing → Link → List Cell → Growing
 supplied schema C l cells = record {
-  atoms = C.atoms ++ record { table = l.table; cells = row_with_fresh Ex C.next l.to cells (table_of schema l.table).width } ∷ [];
+  atoms = C.atoms ++ record {
+    table = l.table;
+    cells = row_with_fresh Ex C.next l.to cells (table_of schema l.table).width;
+  } ∷ [];
   next = C.next + fresh_below l.to cells (table_of schema l.table).width;
 }
 
 -- going through a link of an atom that has this row: if no atom serves the link, one is appended
 abbrev pub through_link : List Table → List Cell → Growing → Link → Growing
-through_link schema row C l = cond (list_any (serves l (cells_in l.from row)) C.atoms) C (supplied schema C l (cells_in l.from row))
+through_link schema row C l =
+    cond (list_any (serves l (cells_in l.from row)) C.atoms) C (supplied schema C l (cells_in l.from row))
 
 -- going through these links in order
 abbrev pub through_links : List Table → List Cell → Growing → List Link → Growing

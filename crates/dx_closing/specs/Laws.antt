@@ -24,7 +24,9 @@ IsWideClosing C = OCCURRENCES < length C.atoms
 
 -- if links fit and have no cycle, each conclusion that fits has a closing
 abbrev pub ClosingEnds : Type 0
-ClosingEnds = (schema : List Table) (C : List Atom) → LinksFit schema → IsAcyclic schema → Each C (AtomFits schema) → (E : List Atom) × IsClosing schema C E
+ClosingEnds =
+    (schema : List Table) (C : List Atom) → LinksFit schema → IsAcyclic schema
+    → Each C (AtomFits schema) → (E : List Atom) × IsClosing schema C E
 
 -- no conclusion has two closings
 abbrev pub OneClosing : Type 0
@@ -36,7 +38,9 @@ ClosingKeeps = (schema : List Table) (C E : List Atom) → IsClosing schema C E 
 
 -- in the closing of a rule whose conclusion fits, all atoms fit, and each link of each of them is served
 abbrev pub ClosingServes : Type 0
-ClosingServes = (schema : List Table) (d e : Rule) → LinksFit schema → Each d.conclusion (AtomFits schema) → IsClosingOf schema d e → IsClosed schema e
+ClosingServes =
+    (schema : List Table) (d e : Rule) → LinksFit schema → Each d.conclusion (AtomFits schema)
+    → IsClosingOf schema d e → IsClosed schema e
 
 -- a rule in whose conclusion each link of each atom is served is its own closing
 abbrev pub ServedIsClosing : Type 0

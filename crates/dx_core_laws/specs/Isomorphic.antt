@@ -10,7 +10,8 @@ use Rattle.dx_instance.specs.Stored.{facts, rows_of, widths}
 use Rattle.dx_exchange.specs.declared.result.Exchange.{Exchange}
 use Rattle.dx_exchange.specs.Exchanging.{ExchangeInput}
 
--- An isomorphism of A onto B: each null of A becomes a null, no two the same, and the facts of A become exactly those of B.
+-- An isomorphism of A onto B: each null of A becomes a null, no two the same,
+-- and the facts of A become exactly those of B.
 pub record IsIsomorphism (h : List NullPair) (A B : List Fact) : Type 0 where
   pub null_map : IsNullMap h
   pub to_nulls : (n : NullId) → Null n ∈ values A → (k : NullId) × (given h n ≡ Null k)
@@ -25,7 +26,8 @@ AreIsomorphic A B = (h : List NullPair) × IsIsomorphism h A B
 
 -- what has Q is at least as many as what has P: for different things with P there are as many different ones with Q
 abbrev pub NoMore : {X : Type 0} → (X → Type 0) → (X → Type 0) → Type 0
-NoMore {X} P Q = (xs : List X) → Distinct xs → Each xs P → (ys : List X) × Distinct ys × Each ys Q × (length ys ≡ length xs)
+NoMore {X} P Q =
+    (xs : List X) → Distinct xs → Each xs P → (ys : List X) × Distinct ys × Each ys Q × (length ys ≡ length xs)
 
 -- a fact of A in the table with a number
 abbrev pub IsFactOf : List Fact → ℕ → Fact → Type 0
@@ -51,7 +53,8 @@ pub record AreOfOneSource (a b : ExchangeInput) : Type 0 where
   pub schema : a.schema ≡ b.schema
   pub rows : a.rows ≈ b.rows
 
--- two exchanges have the same matches, and targets that are one up to the names of their nulls, with as many rows in each table
+-- two exchanges have the same matches, and targets that are one up to the names of their nulls,
+-- with as many rows in each table
 pub record AreAlike (e d : Exchange) : Type 0 where
   pub matches : e.matches ≡ d.matches
   pub widths_are : widths e.target ≡ widths d.target

@@ -20,11 +20,13 @@ use Rattle.dx_queries.specs.Queries.{IsCertain}
 use Rattle.dx_queries.specs.Results.{AreConstantAnswers}
 use Rattle.dx_judge.specs.declared.verdict.Verdict.TheVariants as verdicts
 use Rattle.dx_judge.specs.Verdicts.{IsVerdict, JudgeInput}
-use Rattle.dx_core_laws.specs.Isomorphic.{AreAlike, AreIsomorphic, AreOfOneSource, IsIsomorphism, NoMoreFacts, NoMoreNulls}
+use Rattle.dx_core_laws.specs.Isomorphic.{AreAlike, AreIsomorphic, AreOfOneSource}
+use Rattle.dx_core_laws.specs.Isomorphic.{IsIsomorphism, NoMoreFacts, NoMoreNulls}
 
 -- ---- isomorphisms
 
--- each instance is isomorphic to itself and to each with the same facts, isomorphisms turn round, and follow one another
+-- each instance is isomorphic to itself and to each with the same facts, isomorphisms turn round,
+-- and follow one another
 abbrev pub SameAreIsomorphic : Type 0
 SameAreIsomorphic = (A B : List Fact) → A ≈ B → AreIsomorphic A B
 
@@ -36,7 +38,8 @@ IsomorphismsJoin = (A B C : List Fact) → AreIsomorphic A B → AreIsomorphic B
 
 -- isomorphic instances have as many facts in each table, and as many nulls
 abbrev pub IsomorphicAreAsMany : Type 0
-IsomorphicAreAsMany = (A B : List Fact) → AreIsomorphic A B → NoMoreFacts A B × NoMoreFacts B A × NoMoreNulls A B × NoMoreNulls B A
+IsomorphicAreAsMany =
+    (A B : List Fact) → AreIsomorphic A B → NoMoreFacts A B × NoMoreFacts B A × NoMoreNulls A B × NoMoreNulls B A
 
 -- what is isomorphic to a core is a core
 abbrev pub IsomorphicToCore : Type 0
@@ -53,7 +56,8 @@ IsomorphicToUniversal =
 -- of two cores that map into each other each homomorphism is an isomorphism
 abbrev pub EquivalentCoresAreAlike : Type 0
 EquivalentCoresAreAlike =
-    (A B : List Fact) (h : List NullPair) → IsCore A → IsCore B → MapsInto B A → IsHomomorphism h A B → IsIsomorphism h A B
+    (A B : List Fact) (h : List NullPair) → IsCore A → IsCore B → MapsInto B A → IsHomomorphism h A B
+    → IsIsomorphism h A B
 
 -- two universal solutions that are cores are isomorphic
 abbrev pub CoresAreAlike : Type 0
@@ -69,8 +73,8 @@ CoresExactly =
 
 -- ---- the core is the least
 
--- A universal solution that is a core is isomorphic to a part of each universal solution. The whole maps into this part, which is
--- universal and a core too.
+-- A universal solution that is a core is isomorphic to a part of each universal solution. The whole maps into this
+-- part, which is universal and a core too.
 abbrev pub CoreIsPart : Type 0
 CoreIsPart =
     (convert : Conversions) (R : List Rule) (schema : List Table) (I T U : List Fact)
@@ -87,7 +91,8 @@ CoreIsLeast =
 abbrev pub LeastIsCore : Type 0
 LeastIsCore =
     (convert : Conversions) (R : List Rule) (schema : List Table) (I T : List Fact)
-    → IsUniversal convert R schema I T → ((U : List Fact) → IsUniversal convert R schema I U → NoMoreFacts T U) → IsCore T
+    → IsUniversal convert R schema I T
+    → ((U : List Fact) → IsUniversal convert R schema I U → NoMoreFacts T U) → IsCore T
 
 -- the image of a universal solution under an endomorphism is a universal solution
 abbrev pub ImageIsUniversal : Type 0
@@ -112,7 +117,8 @@ UniversalHasCore =
 -- a plain exchange of the same rules and rows is one: the matches, the fold and the target
 abbrev pub PlainIsOne : Type 0
 PlainIsOne =
-    (convert : Conversions) (a b : ExchangeInput) (e d : Exchange) → AreOfOneSource a b → a.mode ≡ modes.Plain → b.mode ≡ modes.Plain
+    (convert : Conversions) (a b : ExchangeInput) (e d : Exchange) → AreOfOneSource a b
+    → a.mode ≡ modes.Plain → b.mode ≡ modes.Plain
     → IsExchange convert a e → IsExchange convert b d → e ≡ d
 
 -- what is asked, in plain mode
@@ -126,20 +132,23 @@ PlainPassesOne = (convert : Conversions) → PassesOne (over in_plain_mode (exch
 -- in core mode it is one up to the names of the target's nulls
 abbrev pub CoreModeIsOne : Type 0
 CoreModeIsOne =
-    (convert : Conversions) (a b : ExchangeInput) (e d : Exchange) → AreOfOneSource a b → a.mode ≡ modes.Core → b.mode ≡ modes.Core
+    (convert : Conversions) (a b : ExchangeInput) (e d : Exchange) → AreOfOneSource a b
+    → a.mode ≡ modes.Core → b.mode ≡ modes.Core
     → IsExchange convert a e → IsExchange convert b d → AreAlike e d
 
 -- the target of core mode has in each table at most as many rows as any universal solution, and no more nulls
 abbrev pub CoreModeIsLeast : Type 0
 CoreModeIsLeast =
-    (convert : Conversions) (a : ExchangeInput) (e : Exchange) (K : List TableRows) → a.mode ≡ modes.Core → IsExchange convert a e
+    (convert : Conversions) (a : ExchangeInput) (e : Exchange) (K : List TableRows)
+    → a.mode ≡ modes.Core → IsExchange convert a e
     → IsUniversal convert a.rules a.schema a.rows (facts K)
     → ((t : ℕ) → length (rows_of e.target t) ≤ length (rows_of K t)) × NoMoreNulls (facts e.target) (facts K)
 
 -- it is isomorphic to a part of the plain target
 abbrev pub CoreModeIsPart : Type 0
 CoreModeIsPart =
-    (convert : Conversions) (a b : ExchangeInput) (e d : Exchange) → AreOfOneSource a b → a.mode ≡ modes.Core → b.mode ≡ modes.Plain
+    (convert : Conversions) (a b : ExchangeInput) (e d : Exchange) → AreOfOneSource a b
+    → a.mode ≡ modes.Core → b.mode ≡ modes.Plain
     → IsExchange convert a e → IsExchange convert b d
     → ((P : List Fact) × (P ⊆ facts d.target) × AreIsomorphic (facts e.target) P)
     × ((t : ℕ) → length (rows_of e.target t) ≤ length (rows_of d.target t))
@@ -176,7 +185,8 @@ CertainStays =
 -- so of universal solutions of fewer and of more rows: each constant answer on the one is one on the other
 abbrev pub AnswersGrow : Type 0
 AnswersGrow =
-    (convert : Conversions) (R : List Rule) (schema : List Table) (I J T U : List Fact) (q : Query) (rows others : List Tuple)
+    (convert : Conversions) (R : List Rule) (schema : List Table) (I J T U : List Fact) (q : Query)
+    (rows others : List Tuple)
     → I ⊆ J → IsUniversal convert R schema I T → IsUniversal convert R schema J U
     → AreConstantAnswers T q rows → AreConstantAnswers U q others → rows ⊆ others
 

@@ -8,7 +8,9 @@ use Rattle.dx_model.specs.Covers.{is_cell_map, meet}
 
 -- in no cell map that begins with these meetings does the cell meet this one
 abbrev pub NeverMeet : List Meeting → Cell → Cell → Type 0
-NeverMeet bound cell met = (more : List Meeting) (m : Meeting) → m ∈ more → m.cell ≡ cell → m.met ≡ met → is_cell_map (bound ++ more) ≡ false
+NeverMeet bound cell met =
+    (more : List Meeting) (m : Meeting) → m ∈ more → m.cell ≡ cell → m.met ≡ met
+    → is_cell_map (bound ++ more) ≡ false
 
 -- no cell map that begins with these meetings has those of the atom a with b
 abbrev pub IsExcluded : List Meeting → Atom → Atom → Type 0

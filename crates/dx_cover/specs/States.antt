@@ -1,5 +1,6 @@
 -- States of the search for cell maps: what is below a state that the search has gone through gives nothing new.
-use Rattle.std.specs.Prelude.{◌≡◌, ◌↔◌, ℕ, ◌-◌, ◌≤◌, Bool, true, false, cond, eqb, nat_lt, ◌&&◌, ◌||◌, List, [], ◌∷◌, ◌++◌, map, length, drop}
+use Rattle.std.specs.Prelude.{◌≡◌, ◌↔◌, ℕ, ◌-◌, ◌≤◌, Bool, true, false, cond, eqb, nat_lt}
+use Rattle.std.specs.Prelude.{◌&&◌, ◌||◌, List, [], ◌∷◌, ◌++◌, map, length, drop}
 use Rattle.std.specs.List.{filter, list_any}
 use Rattle.dx_base.specs.Members.{Each}
 use Rattle.dx_model.specs.declared.rules.Cell.{Cell}
@@ -84,7 +85,8 @@ exported_images ks = map (λ (k : CellMap). k.exported) ks
 abbrev pub StateIsEnough : Type 0
 StateIsEnough =
     (i : Rule) (bound : List Meeting) (rest others : List Atom) → is_cell_map bound ≡ true
-    → exported_images (maps_under i (counted_meetings true rest bound) rest others) ≡ exported_images (maps_under i bound rest others)
+    → exported_images (maps_under i (counted_meetings true rest bound) rest others)
+    ≡ exported_images (maps_under i bound rest others)
 
 -- the meetings of the state alone, without the exported variables, are enough to tell whether there is a cell map
 abbrev pub DeadIsEnough : Type 0
@@ -105,5 +107,6 @@ NothingStays =
 -- maps that give the exported variables the same images as maps that add nothing add nothing
 abbrev pub SameAddNothing : Type 0
 SameAddNothing =
-    (found ks ls : List CellMap) → length found ≤ 16 → exported_images ks ≡ exported_images ls → found_after found ks ≡ found
+    (found ks ls : List CellMap) → length found ≤ 16 → exported_images ks ≡ exported_images ls
+    → found_after found ks ≡ found
     → found_after found ls ≡ found

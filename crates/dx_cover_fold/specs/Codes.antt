@@ -52,4 +52,5 @@ numbers_by plan row = map (number_told row) plan
 pub record IsPlanned (symbols : List Value) (variables : List ℕ) (width : ℕ) (c : Cell) (p : NumberAt) : Type 0 where
   pub column : RowHasColumn width p
   pub code : (rule place : ℕ) (row : List ℕ) → length row ≡ width → AreTexts symbols row
-      → IsCode symbols (cell_value (text_of variables (texts_of symbols row)) (λ v. Null (record { rule = rule; var = v; row = place })) c) (number_told row p)
+      → IsCode symbols (cell_value (text_of variables (texts_of symbols row))
+      (λ v. Null (record { rule = rule; var = v; row = place })) c) (number_told row p)

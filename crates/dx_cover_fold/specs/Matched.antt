@@ -16,8 +16,8 @@ tuples_of symbols tables = map (λ (t : NumberTable). map (texts_of symbols) t.r
 abbrev pub matched_tuples : NumberedInstance → Rows
 matched_tuples m = tuples_of m.symbols m.tables
 
--- what holds of rows that are compared by their numbers: symbols are distinct, and two more numbers are left; each number of a row
--- stands for a text
+-- what holds of rows that are compared by their numbers: symbols are distinct, and two more numbers are left; each
+-- number of a row stands for a text
 pub record RowsAreComparable (symbols : List Value) (tables : List NumberTable) : Type 0 where
   pub apart : AreDistinctValues symbols
   pub few : length symbols < 2 ^ 32 - 1

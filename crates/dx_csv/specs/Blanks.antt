@@ -1,5 +1,6 @@
 -- A table of which only some columns count. A column without a mark is used.
-use Rattle.std.specs.Prelude.{◌≡◌, ◌⊎◌, ◌+◌, ◌*◌, ◌<◌, ◌≤◌, ℕ, List, [], map, Bool, cond, true, false, slice_index, slice_index_or, Some}
+use Rattle.std.specs.Prelude.{◌≡◌, ◌⊎◌, ◌+◌, ◌*◌, ◌<◌, ◌≤◌, ℕ, List, [], map, Bool}
+use Rattle.std.specs.Prelude.{cond, true, false, slice_index, slice_index_or, Some}
 use Rattle.dx_base.specs.Members.{◌∈◌}
 use Rattle.dx_model.specs.declared.values.Value.{Value}
 use Rattle.dx_model.specs.declared.values.Value.TheVariants.{Const}
@@ -10,7 +11,8 @@ use Rattle.dx_csv.specs.Table.{AreTableRecords}
 
 -- the rows of a table, blank in the columns that are not used
 abbrev pub IsTableUsed : List Bool → List (List (List ℕ)) → List (List ℕ) → List (List Value) → Type 0
-IsTableUsed used records columns rows = (whole : List (List Value)) × AreTableRecords records columns whole × (rows ≡ map (blanked used) whole)
+IsTableUsed used records columns rows =
+    (whole : List (List Value)) × AreTableRecords records columns whole × (rows ≡ map (blanked used) whole)
 
 -- the constants of these texts, blank in the columns that are not used
 abbrev pub constants_used : List Bool → List (List ℕ) → List Value
@@ -30,18 +32,22 @@ HasBlank used symbols n = false ∈ used → IsBlankNumber symbols n
 
 -- the constant of a record in a column, blank if the column is not used
 abbrev pub constant_at : List Bool → List (List ℕ) → ℕ → ℕ → ℕ → Value
-constant_at used texts width r column = cond (is_used used column) (Const (slice_index_or texts (r * width + column) [])) (Const [])
+constant_at used texts width r column =
+    cond (is_used used column) (Const (slice_index_or texts (r * width + column) [])) (Const [])
 
 -- the cells of a column in the first n records have the numbers of their texts' constants
 abbrev pub AreNumbersOfTexts : List Value → List (List ℕ) → ℕ → ℕ → List ℕ → ℕ → Type 0
 AreNumbersOfTexts symbols texts width column cells n =
-    (r : ℕ) → r < n → IsNumberOf symbols (Const (slice_index_or texts (r * width + column) [])) (Some (slice_index cells (r * width + column)))
+    (r : ℕ) → r < n → IsNumberOf symbols (Const (slice_index_or texts (r * width + column) []))
+    (Some (slice_index cells (r * width + column)))
 
 -- the cells of the other columns stay
 abbrev pub OthersStay : ℕ → ℕ → List ℕ → List ℕ → Type 0
-OthersStay width column old new = (r d : ℕ) → d < width → ¬ (d ≡ column) → slice_index new (r * width + d) ≡ slice_index old (r * width + d)
+OthersStay width column old new =
+    (r d : ℕ) → d < width → ¬ (d ≡ column) → slice_index new (r * width + d) ≡ slice_index old (r * width + d)
 
 -- the cells of all columns that are not used, and of those from this one on, have the numbers of their constants
 abbrev pub AreSettled : List Bool → List Value → List (List ℕ) → ℕ → ℕ → List ℕ → ℕ → Type 0
 AreSettled used symbols texts width count cells column =
-    (r c : ℕ) → r < count → c < width → (column ≤ c) ⊎ (is_used used c ≡ false) → IsNumberOf symbols (constant_at used texts width r c) (Some (slice_index cells (r * width + c)))
+    (r c : ℕ) → r < count → c < width → (column ≤ c) ⊎ (is_used used c ≡ false)
+    → IsNumberOf symbols (constant_at used texts width r c) (Some (slice_index cells (r * width + c)))

@@ -38,7 +38,8 @@ records_in zero width fields = []
 records_in (suc n) width fields = take width fields ∷ records_in n width (drop width fields)
 
 -- these fields are those of the records under the header, so many as there are columns in each record
-pub record AreFields (records : List (List (List ℕ))) (columns : List (List ℕ)) (fields : List (List ℕ)) (count : ℕ) : Type 0 where
+pub record AreFields (records : List (List (List ℕ))) (columns : List (List ℕ)) (fields : List (List ℕ))
+    (count : ℕ) : Type 0 where
   pub under : List (List (List ℕ))
   pub header : records ≡ columns ∷ under
   pub whole : All (IsWholeRecord columns) under

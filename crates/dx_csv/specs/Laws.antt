@@ -23,7 +23,8 @@ OneRowFault =
 abbrev pub TableOrFault : Type 0
 TableOrFault =
     (records : List (List (List ℕ))) (columns : List (List ℕ))
-    → ((rows : List (List Value)) × AreTableRecords records columns rows) ⊎ ((k : RowKind) × IsAtFault records columns k)
+    → ((rows : List (List Value)) × AreTableRecords records columns rows)
+    ⊎ ((k : RowKind) × IsAtFault records columns k)
 
 -- and never both
 abbrev pub NeverTableAndFault : Type 0
@@ -31,8 +32,8 @@ NeverTableAndFault =
     (records : List (List (List ℕ))) (columns : List (List ℕ)) (rows : List (List Value)) (k : RowKind)
     → AreTableRecords records columns rows → ¬ (IsAtFault records columns k)
 
--- records with a field each, of which the first does not begin with a byte order mark, are printed as a text that is read as
--- just these records
+-- records with a field each, of which the first does not begin with a byte order mark, are printed as a text that is
+-- read as just these records
 abbrev pub PrintedReadsBack : Type 0
 PrintedReadsBack =
     (first : List (List ℕ)) (rest : List (List (List ℕ)))

@@ -1,7 +1,8 @@
 -- The records that a reader of a table has left.
 use Rattle.std.specs.Prelude.{◌≡◌, ◌+◌, ℕ, List, [], true, false, Option, Some, None, length}
 use Rattle.csv.specs.Machine.{ends_at_end}
-use Rattle.csv.specs.Reading.{default_config, is_flexible, reader_config, reader_state, reader_trim, records_from, source_of, Ready}
+use Rattle.csv.specs.Reading.{default_config, is_flexible, reader_config, reader_state}
+use Rattle.csv.specs.Reading.{reader_trim, records_from, source_of, Ready}
 use Rattle.csv.specs.declared.parser.State.{State}
 use Rattle.csv.specs.declared.reader.Reader.{Reader}
 use Rattle.csv.specs.declared.reader.Trim.TheVariants as trim

@@ -1,5 +1,6 @@
 -- Records whose fields stand as they are or whole in quotes, as they stand in a text.
-use Rattle.std.specs.Prelude.{◌≡◌, ◌≢◌, ◌≤◌, ◌<◌, ◌==◌, ◌&&◌, ◌||◌, ◌∷◌, Bool, true, not, ℕ, List, [], All, drop, length, slice_index, slice_index_or}
+use Rattle.std.specs.Prelude.{◌≡◌, ◌≢◌, ◌≤◌, ◌<◌, ◌==◌, ◌&&◌, ◌||◌, ◌∷◌, Bool, true, not, ℕ}
+use Rattle.std.specs.Prelude.{List, [], All, drop, length, slice_index, slice_index_or}
 use Rattle.csv.specs.Machine.{ends_at_end, next_record, step}
 use Rattle.csv.specs.Reading.{default_config}
 use Rattle.csv.specs.Records.{AllText}
@@ -39,7 +40,9 @@ pub record FieldAt (bytes : List ℕ) (place after : ℕ) (field : List ℕ) : T
   pub within : after ≤ length bytes
   pub state : State
   pub over : IsOver state
-  pub read : (fields : List (List ℕ)) → next_record default_config st.StartField fields [] (drop place bytes) ≡ next_record default_config state fields field (drop after bytes)
+  pub read : (fields : List (List ℕ))
+      → next_record default_config st.StartField fields [] (drop place bytes)
+      ≡ next_record default_config state fields field (drop after bytes)
 
 -- a record of so many texts
 pub record IsRecordOf (many : ℕ) (fields : List (List ℕ)) : Type 0 where

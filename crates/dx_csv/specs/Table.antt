@@ -25,14 +25,16 @@ pub record FirstDifference (xs ys : List (List ℕ)) (place : ℕ) : Type 0 wher
   pub here : slice_get xs place ≢ slice_get ys place
 
 -- the header is the columns, and under it stands for each row a record of the texts of its constants
-pub record AreTableRecords (records : List (List (List ℕ))) (columns : List (List ℕ)) (rows : List (List Value)) : Type 0 where
+pub record AreTableRecords (records : List (List (List ℕ))) (columns : List (List ℕ))
+    (rows : List (List Value)) : Type 0 where
   pub under : List (List (List ℕ))
   pub header : records ≡ columns ∷ under
   pub whole : All (IsWholeRecord columns) under
   pub values : rows ≡ map constants under
 
 -- the record of this number is the first that is not whole
-pub record FirstFaulty (records : List (List (List ℕ))) (columns : List (List ℕ)) (number : ℕ) (fields : List (List ℕ)) : Type 0 where
+pub record FirstFaulty (records : List (List (List ℕ))) (columns : List (List ℕ)) (number : ℕ)
+    (fields : List (List ℕ)) : Type 0 where
   pub good : List (List (List ℕ))
   pub rest : List (List (List ℕ))
   pub header : records ≡ columns ∷ (good ++ (fields ∷ rest))
@@ -43,11 +45,13 @@ pub record FirstFaulty (records : List (List (List ℕ))) (columns : List (List 
 abbrev pub IsAtFault : List (List (List ℕ)) → List (List ℕ) → RowKind → Type 0
 IsAtFault records columns kind.NoHeader = records ≡ []
 IsAtFault records columns (kind.Header place) =
-    (header : List (List ℕ)) × (rest : List (List (List ℕ))) × (records ≡ header ∷ rest) × FirstDifference header columns place
+    (header : List (List ℕ)) × (rest : List (List (List ℕ))) × (records ≡ header ∷ rest)
+    × FirstDifference header columns place
 IsAtFault records columns (kind.Width number) =
     (fields : List (List ℕ)) × FirstFaulty records columns number fields × (length fields ≢ length columns)
 IsAtFault records columns (kind.NotText number) =
-    (fields : List (List ℕ)) × FirstFaulty records columns number fields × (length fields ≡ length columns) × ¬ (AllText fields)
+    (fields : List (List ℕ)) × FirstFaulty records columns number fields
+    × (length fields ≡ length columns) × ¬ (AllText fields)
 
 -- why a table was not read: the records have the fault, or memory ran out
 abbrev pub HasTableFault : List (List (List ℕ)) → List (List ℕ) → RowFault → Type 0

@@ -38,22 +38,27 @@ script_cells steps tables = sum (map (λ r. length (match_table tables r) * cell
 -- ---- runs
 
 -- the match tables of a script on the rows I of a source
-pub record AreMatchTables (source : List TableNames) (call : Text → Tuple → Text) (steps : List Step) (I : List Fact) (tables : Rows)
+pub record AreMatchTables (source : List TableNames) (call : Text → Tuple → Text) (steps : List Step)
+    (I : List Fact) (tables : Rows)
     : Type 0 where
-  pub matches : (r : ℕ) (select : List Select) (sources : List Text) (equal : List Equal) → MatchRows r select sources equal ∈ steps
+  pub matches : (r : ℕ) (select : List Select) (sources : List Text) (equal : List Equal)
+      → MatchRows r select sources equal ∈ steps
       → (r < length tables) × IsMatchTable source call I select sources equal (match_table tables r)
   pub no_more : (r : ℕ) → r < length tables
-      → (select : List Select) × (sources : List Text) × (equal : List Equal) × (MatchRows r select sources equal ∈ steps)
+      → (select : List Select) × (sources : List Text) × (equal : List Equal)
+      × (MatchRows r select sources equal ∈ steps)
 
 -- the matches and the facts are what the script means, within the limit; the tables have the columns of the target's
-pub record IsMade (source target : List TableNames) (call : Text → Tuple → Text) (steps : List Step) (I : List Fact) (limit : ℕ)
+pub record IsMade (source target : List TableNames) (call : Text → Tuple → Text) (steps : List Step)
+    (I : List Fact) (limit : ℕ)
     (m : Made) : Type 0 where
   pub means : Means source target call steps I (rows_of_matches m.matches) (facts m.instance)
   pub within : script_cells steps (rows_of_matches m.matches) ≤ limit
   pub wide : widths m.instance ≡ map (λ (t : TableNames). length t.columns) target
 
 -- the match tables of the script pass the limit, and this is the fault
-pub record ScriptPassesLimit (source : List TableNames) (call : Text → Tuple → Text) (steps : List Step) (I : List Fact) (limit : ℕ)
+pub record ScriptPassesLimit (source : List TableNames) (call : Text → Tuple → Text) (steps : List Step)
+    (I : List Fact) (limit : ℕ)
     (e : EvalFault) : Type 0 where
   pub tables : Rows
   pub are : AreMatchTables source call steps I tables

@@ -52,21 +52,27 @@ MatchesFit source list steps =
     → steps ≡ before ++ MatchRows r select sources equal ∷ after → MatchFits source list before r select sources equal
 
 -- the rows stand for exactly the tuples that a match step selects
-abbrev pub IsFoundStep : List TableNames → (Text → Tuple → Text) → List Fact → List Value → MatchStep → NumberTable → Type 0
-IsFoundStep source call I symbols m t = StandFor (length m.select) (IsSelected source call I m.select m.sources m.equal) symbols t
+abbrev pub IsFoundStep : List TableNames → (Text → Tuple → Text) → List Fact → List Value → MatchStep
+    → NumberTable → Type 0
+IsFoundStep source call I symbols m t =
+    StandFor (length m.select) (IsSelected source call I m.select m.sources m.equal) symbols t
 
 -- rows that stand for the tuples that a match step selects, or none if these are more than so many
-abbrev pub IsFoundUpTo : ℕ → List TableNames → (Text → Tuple → Text) → List Fact → List Value → Option NumberTable → MatchStep → Type 0
+abbrev pub IsFoundUpTo : ℕ → List TableNames → (Text → Tuple → Text) → List Fact → List Value
+    → Option NumberTable → MatchStep → Type 0
 IsFoundUpTo most source call I symbols rows m =
-    MatchOption rows (MoreTuples most (IsSelected source call I m.select m.sources m.equal)) (IsFoundStep source call I symbols m)
+    MatchOption rows (MoreTuples most (IsSelected source call I m.select m.sources m.equal))
+    (IsFoundStep source call I symbols m)
 
 -- each match step has rows that stand for its tuples
-abbrev pub AreFoundSteps : List TableNames → (Text → Tuple → Text) → List Fact → List Value → List MatchStep → List NumberTable
+abbrev pub AreFoundSteps : List TableNames → (Text → Tuple → Text) → List Fact → List Value
+    → List MatchStep → List NumberTable
     → Type 0
 AreFoundSteps source call I symbols ms tables = AllZip (IsFoundStep source call I symbols) ms tables
 
 -- what is known of the steps before one of them: what is found of them, and what they leave of the limit
-pub record FoundSoFar (source : List TableNames) (call : Text → Tuple → Text) (I : List Fact) (steps : List Step) (old symbols : List Value)
+pub record FoundSoFar (source : List TableNames) (call : Text → Tuple → Text) (I : List Fact)
+    (steps : List Step) (old symbols : List Value)
     (ms : List MatchStep) (tables : List NumberTable) (limit left : ℕ) : Type 0 where
   pub found : AreFoundSteps source call I symbols ms tables
   pub grows : Extends old symbols

@@ -1,5 +1,6 @@
 -- What insert steps make of the places of a rule.
-use Rattle.std.specs.Prelude.{◌≡◌, ℕ, ◌<◌, IsTrue, cond, eqb, Bool, List, [], length, map, flat_map, slice_index, slice_index_or}
+use Rattle.std.specs.Prelude.{◌≡◌, ℕ, ◌<◌, IsTrue, cond, eqb, Bool, List, []}
+use Rattle.std.specs.Prelude.{length, map, flat_map, slice_index, slice_index_or}
 use Rattle.dx_base.specs.Members.{◌∈◌, Each}
 use Rattle.dx_base.specs.Texts.{Text}
 use Rattle.dx_model.specs.declared.facts.Fact.{Fact}
@@ -20,7 +21,8 @@ use Rattle.dx_eval.specs.Variables.{width_named}
 
 -- the fact of a table that cells make of a place
 abbrev pub placed_fact : ℕ → ℕ → List Tuple → List Out → ℕ → Fact
-placed_fact table r tuples cells k = record { table = table; row = map (inserted r k (slice_index_or tuples k [])) cells }
+placed_fact table r tuples cells k =
+    record { table = table; row = map (inserted r k (slice_index_or tuples k [])) cells }
 
 -- the fact that an insert step makes of a place
 abbrev pub inserted_fact : List TableNames → Text → ℕ → List Tuple → List Out → ℕ → Fact
@@ -31,14 +33,16 @@ abbrev pub inserted_facts : List TableNames → ℕ → List Tuple → List ℕ 
 inserted_facts target r tuples places (Create table columns) = []
 inserted_facts target r tuples places (MatchRows s select sources equal) = []
 inserted_facts target r tuples places (KeepRows s unless) = []
-inserted_facts target r tuples places (InsertRows table s kept cells) = cond (eqb s r) (map (inserted_fact target table r tuples cells) places) []
+inserted_facts target r tuples places (InsertRows table s kept cells) =
+    cond (eqb s r) (map (inserted_fact target table r tuples cells) places) []
 
 -- the facts that the steps make of them
 abbrev pub facts_by : List TableNames → List Step → ℕ → List Tuple → List ℕ → List Fact
 facts_by target steps r tuples places = flat_map (inserted_facts target r tuples places) steps
 
 -- an insert step makes the fact, of a rule below n
-pub record IsInsertedBelow (target : List TableNames) (steps : List Step) (tables : Rows) (n : ℕ) (f : Fact) : Type 0 where
+pub record IsInsertedBelow (target : List TableNames) (steps : List Step) (tables : Rows) (n : ℕ)
+    (f : Fact) : Type 0 where
   pub step : IsInserted target steps tables f
   pub low : step.rule < n
 
@@ -60,7 +64,8 @@ pub record InsertStands (target : List TableNames) (width : ℕ) (table : Text) 
   pub many : length cells ≡ width_named target table
   pub outs : Each cells (OutStands width)
 
--- the keep and the insert steps read tables that are there, and columns of theirs; an insert of a rule with a keep step reads what it keeps
+-- the keep and the insert steps read tables that are there, and columns of theirs;
+-- an insert of a rule with a keep step reads what it keeps
 pub record StepsStand (target : List TableNames) (steps : List Step) (tables : List NumberTable) : Type 0 where
   pub keeps : (r : ℕ) (unless : List Unless) → KeepRows r unless ∈ steps → Each unless (PartStands tables r)
   pub inserts : (table : Text) (r : ℕ) (kept : Bool) (cells : List Out) → InsertRows table r kept cells ∈ steps

@@ -62,12 +62,14 @@ KeepsPlaces P old new = (k : ℕ) → (k ∈ new) ↔ ((k ∈ old) × P k)
 
 -- the tuple of a place has no partner
 abbrev pub LacksPartner : List Value → List (List ℕ) → List (List ℕ) → List Test → ℕ → Type 0
-LacksPartner symbols own other tests k = ¬ (IsPartnered (map (texts_of symbols) other) tests (texts_of symbols (numbers_at own k)))
+LacksPartner symbols own other tests k =
+    ¬ (IsPartnered (map (texts_of symbols) other) tests (texts_of symbols (numbers_at own k)))
 
 -- the tuple of a place of rule r has no partner by any of the parts
 abbrev pub LacksPartners : List Value → List NumberTable → ℕ → List Unless → ℕ → Type 0
 LacksPartners symbols tables r unless k =
-    Each unless (λ (u : Unless). LacksPartner symbols (numbers_of_table tables r).rows (numbers_of_table tables u.rule).rows u.tests k)
+    Each unless (λ (u : Unless). LacksPartner symbols (numbers_of_table tables r).rows
+    (numbers_of_table tables u.rule).rows u.tests k)
 
 -- a part reads tables that are there, and columns of theirs
 pub record PartStands (tables : List NumberTable) (r : ℕ) (u : Unless) : Type 0 where

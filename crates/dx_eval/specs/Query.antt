@@ -18,7 +18,8 @@ use Rattle.dx_script.specs.Meaning.{IsAssignment, selected, table_of_alias}
 use Rattle.dx_eval.specs.Variables.{AreVariables, alias_variables, variable_of}
 
 -- an assignment selects the tuple
-abbrev pub IsSelected : List TableNames → (Text → Tuple → Text) → List Fact → List Select → List Text → List Equal → Tuple
+abbrev pub IsSelected : List TableNames → (Text → Tuple → Text) → List Fact → List Select → List Text
+    → List Equal → Tuple
     → Type 0
 IsSelected source call I select sources equal t =
     (rows : ℕ → Tuple) × IsAssignment source I sources equal rows × (t ≡ map (selected source call sources rows) select)
@@ -27,7 +28,8 @@ IsSelected source call I select sources equal t =
 
 -- the atom of an alias
 abbrev pub alias_atom : List TableNames → List Text → List (List ℕ) → ℕ → Atom
-alias_atom source sources vars alias = record { table = table_of_alias source sources alias; cells = map Var (alias_variables vars alias) }
+alias_atom source sources vars alias =
+    record { table = table_of_alias source sources alias; cells = map Var (alias_variables vars alias) }
 
 -- an atom for each alias
 abbrev pub alias_atoms : List TableNames → List Text → List (List ℕ) → List Atom
@@ -43,7 +45,8 @@ code_found (Some c) = c.code
 -- the derived variable of what is selected, if it is a conversion
 abbrev pub derived_in : List Conversion → (CellRef → ℕ) → Select → List Derived
 derived_in list variable (Cell c) = []
-derived_in list variable (Call name args) = record { code = code_found (first_named list name); args = map variable args } ∷ []
+derived_in list variable (Call name args) =
+    record { code = code_found (first_named list name); args = map variable args } ∷ []
 
 -- the derived variables
 abbrev pub derived_of_selects : List Conversion → (CellRef → ℕ) → List Select → List Derived
@@ -64,7 +67,8 @@ next_after next (Call name args ∷ select) = next_after (suc next) select
 -- ---- the whole
 
 -- premise, derived variables and shown variables are those of the match step, with the variables of its cells
-pub record IsQuery (source : List TableNames) (list : List Conversion) (select : List Select) (sources : List Text) (equal : List Equal)
+pub record IsQuery (source : List TableNames) (list : List Conversion) (select : List Select)
+    (sources : List Text) (equal : List Equal)
     (premise : List Atom) (derived : List Derived) (shown : List ℕ) : Type 0 where
   pub vars : List (List ℕ)
   pub n : ℕ

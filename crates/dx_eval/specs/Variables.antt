@@ -32,7 +32,8 @@ pub record HasVariable (vars : List (List ℕ)) (x : ℕ) : Type 0 where
 
 -- the variable of a cell
 abbrev pub variable_of : List TableNames → List Text → List (List ℕ) → CellRef → ℕ
-variable_of source sources vars c = alias_variable vars c.alias (column_named source (table_of_alias source sources c.alias) c.column)
+variable_of source sources vars c =
+    alias_variable vars c.alias (column_named source (table_of_alias source sources c.alias) c.column)
 
 -- how many columns the table of a name has
 abbrev pub width_named : List TableNames → Text → ℕ
@@ -53,13 +54,17 @@ abbrev pub EqualCellsAgree : List TableNames → List Text → List Equal → (�
 EqualCellsAgree source sources equal rows =
     Each equal (λ (e : Equal). alias_cell_text source sources rows e.left ≡ alias_cell_text source sources rows e.right)
 
--- the variables are those below n: cells have one variable exactly if they have one text wherever cells that are to be equal have
-pub record AreVariables (source : List TableNames) (sources : List Text) (equal : List Equal) (vars : List (List ℕ)) (n : ℕ) : Type 0 where
+-- the variables are those below n: cells have one variable exactly if they have one
+-- text wherever cells that are to be equal have
+pub record AreVariables (source : List TableNames) (sources : List Text) (equal : List Equal)
+    (vars : List (List ℕ)) (n : ℕ) : Type 0 where
   pub shape : AreWide source sources vars
   pub below_n : (alias column : ℕ) → AliasHasCell vars alias column → alias_variable vars alias column < n
   pub all : (x : ℕ) → x < n → HasVariable vars x
-  pub joined : Each equal (λ (e : Equal). variable_of source sources vars e.left ≡ variable_of source sources vars e.right)
-  pub apart : (rows : ℕ → Tuple) → EqualCellsAgree source sources equal rows → (a c b d : ℕ) → AliasHasCell vars a c → AliasHasCell vars b d
+  pub joined : Each equal (λ (e : Equal). variable_of source sources vars e.left
+      ≡ variable_of source sources vars e.right)
+  pub apart : (rows : ℕ → Tuple) → EqualCellsAgree source sources equal rows → (a c b d : ℕ)
+      → AliasHasCell vars a c → AliasHasCell vars b d
       → alias_variable vars a c ≡ alias_variable vars b d → slice_index_or (rows a) c [] ≡ slice_index_or (rows b) d []
   pub few : cell_count vars < 2 ^ 32
 
@@ -70,7 +75,8 @@ pub record AreSeparate (source : List TableNames) (sources : List Text) (vars : 
   pub shape : AreWide source sources vars
   pub below_n : (alias column : ℕ) → AliasHasCell vars alias column → alias_variable vars alias column < n
   pub all : (x : ℕ) → x < n → HasVariable vars x
-  pub own : (a c b d : ℕ) → AliasHasCell vars a c → AliasHasCell vars b d → alias_variable vars a c ≡ alias_variable vars b d
+  pub own : (a c b d : ℕ) → AliasHasCell vars a c → AliasHasCell vars b d
+      → alias_variable vars a c ≡ alias_variable vars b d
       → (a ≡ b) × (c ≡ d)
   pub count : cell_count vars ≡ n
 

@@ -12,7 +12,8 @@ use Rattle.dx_fails.specs.declared.alone.LoneRow.{LoneRow}
 use Rattle.dx_fails.specs.declared.broken.Apart.{Apart}
 use Rattle.dx_fails.specs.declared.broken.BrokenKey.{BrokenKey}
 use Rattle.dx_fails.specs.declared.determining.Determines.{Determines}
-use Rattle.dx_fails.specs.Firsts.{DeterminationHolds, HasDetermination, HasLink, HasLinked, IsFirstFailing, LinkHolds, link_at}
+use Rattle.dx_fails.specs.Firsts.{DeterminationHolds, HasDetermination, HasLink}
+use Rattle.dx_fails.specs.Firsts.{HasLinked, IsFirstFailing, LinkHolds, link_at}
 
 -- the first determination that does not hold, and two rows that agree on its left and differ in a column of its right
 pub record IsBrokenKey (schema : List Table) (I : List TableRows) (b : BrokenKey) : Type 0 where
@@ -20,7 +21,8 @@ pub record IsBrokenKey (schema : List Table) (I : List TableRows) (b : BrokenKey
   pub table : b.table < length I
   pub in_order : b.left < b.right
   pub within : b.right < length (rows_of I b.table)
-  pub break : Break schema (facts I) (fact_at I b.table b.left) (fact_at I b.table b.right) (determination_at schema b.table b.key) b.column
+  pub break : Break schema (facts I) (fact_at I b.table b.left) (fact_at I b.table b.right)
+      (determination_at schema b.table b.key) b.column
 
 -- the first link that does not hold, and a row that lacks the row that it names
 pub record IsLoneRow (schema : List Table) (I : List TableRows) (r : LoneRow) : Type 0 where
@@ -68,7 +70,8 @@ pub record IsViolation (I : List TableRows) (t : ℕ) (left right : List ℕ) (a
 pub record AreShadows (I : List TableRows) (t : ℕ) (columns : List ℕ) (S : List TableRows) : Type 0 where
   pub widths_are : widths S ≡ length columns ∷ []
   pub kept : (p : ℕ) → p < length (rows_of I t) → values_in columns (row_at I t p) ∈ rows_of S 0
-  pub only : (row : List Value) → row ∈ rows_of S 0 → (p : ℕ) × (p < length (rows_of I t)) × (values_in columns (row_at I t p) ≡ row)
+  pub only : (row : List Value) → row ∈ rows_of S 0
+      → (p : ℕ) × (p < length (rows_of I t)) × (values_in columns (row_at I t p) ≡ row)
 
 -- the row at place p of table t has the row that the link names
 abbrev pub HasLinkedRow : List TableRows → ℕ → Link → ℕ → Type 0
@@ -93,7 +96,8 @@ pub record IsBrokenIn (schema : List Table) (I : List TableRows) (t : ℕ) (b : 
   pub before : (k : ℕ) → k < b.key → DeterminationHolds schema (facts I) t k
   pub in_order : b.left < b.right
   pub within : b.right < length (rows_of I t)
-  pub break : Break schema (facts I) (fact_at I t b.left) (fact_at I t b.right) (determination_at schema t b.key) b.column
+  pub break : Break schema (facts I) (fact_at I t b.left) (fact_at I t b.right)
+      (determination_at schema t b.key) b.column
 
 -- each link of table t holds
 abbrev pub AllLead : List Table → List TableRows → ℕ → Type 0

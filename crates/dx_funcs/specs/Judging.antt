@@ -16,7 +16,8 @@ abbrev pub IsTestOf : List RowTest → ℕ → List ℕ → Type 0
 IsTestOf list code text = (code ∈ map (λ (t : RowTest). t.code) list) × IsUtf8 text
 
 -- f may be called with each listed code and any text, and each Ok is what is meant
-pub record Judges {P : Type 0} (calls : TestCalls P) (f : P) (passes : ℕ → List ℕ → Bool) (list : List RowTest) : Type 0 where
+pub record Judges {P : Type 0} (calls : TestCalls P) (f : P) (passes : ℕ → List ℕ → Bool)
+    (list : List RowTest) : Type 0 where
   pub callable : (code : ℕ) (text : Bor (List ℕ)) → IsTestOf list code text.now → calls.pre f (code, (text, tt))
   pub means : (code : ℕ) (text : Bor (List ℕ)) (r : Result Bool AllocError) → IsTestOf list code text.now
       → calls.post f (code, (text, tt)) r → IfOk r (λ b. b ≡ passes code text.now)

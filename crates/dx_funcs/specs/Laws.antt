@@ -21,4 +21,5 @@ EachIsTold = (list : List Conversion) (c : Conversion) → IsOffer list → c �
 abbrev pub CallsByNameAreByCode : Type 0
 CallsByNameAreByCode =
     (apply : ℕ → List Text → Text) (list : List Conversion) (code : ℕ) (args : List Text)
-    → IsOffer list → code ∈ map (λ (c : Conversion). c.code) list → call_named apply list (conversion_name list code) args ≡ apply code args
+    → IsOffer list → code ∈ map (λ (c : Conversion). c.code) list
+    → call_named apply list (conversion_name list code) args ≡ apply code args

@@ -21,4 +21,5 @@ Distinct-prop [] = Prim.hlevel logic.props
 Distinct-prop (x ∷ xs) = Prim.hlevel (logic.props, Distinct-prop xs)
 
 pub IsOffer-prop : (list : List Conversion) → IsProp (IsOffer list)
-IsOffer-prop list = Prim.hlevel (logic.props, Distinct-prop (map (λ c. c.name) list), Distinct-prop (map (λ c. c.code) list))
+IsOffer-prop list =
+    Prim.hlevel (logic.props, Distinct-prop (map (λ c. c.name) list), Distinct-prop (map (λ c. c.code) list))

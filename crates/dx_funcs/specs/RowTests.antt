@@ -12,4 +12,5 @@ pub record AreTests (list : List RowTest) : Type 0 where
 
 -- this fact has at most one proof, as a fact that a struct keeps must
 pub AreTests-prop : (list : List RowTest) → IsProp (AreTests list)
-AreTests-prop list = Prim.hlevel (logic.props, Distinct-prop (map (λ t. t.name) list), Distinct-prop (map (λ t. t.code) list))
+AreTests-prop list =
+    Prim.hlevel (logic.props, Distinct-prop (map (λ t. t.name) list), Distinct-prop (map (λ t. t.code) list))

@@ -17,8 +17,10 @@ abbrev pub AreArguments : List Conversion → ℕ → List (List ℕ) → Type 0
 AreArguments list code args = IsListed list code (length args) × Each args IsUtf8
 
 -- f may be called with each listed code and as many texts as it takes, and each Ok is what is meant
-pub record AnswersCalls {F : Type 0} (calls : Calls F) (f : F) (apply : ℕ → List (List ℕ) → List ℕ) (list : List Conversion) : Type 0 where
-  pub callable : (code : ℕ) (args : Bor (List (List ℕ))) → AreArguments list code args.now → calls.pre f (code, (args, tt))
+pub record AnswersCalls {F : Type 0} (calls : Calls F) (f : F) (apply : ℕ → List (List ℕ) → List ℕ)
+    (list : List Conversion) : Type 0 where
+  pub callable : (code : ℕ) (args : Bor (List (List ℕ))) → AreArguments list code args.now
+      → calls.pre f (code, (args, tt))
   pub means : (code : ℕ) (args : Bor (List (List ℕ))) (r : Result (List ℕ) AllocError) → AreArguments list code args.now
       → calls.post f (code, (args, tt)) r → IfOk r (λ t. t ≡ apply code args.now)
 

@@ -33,7 +33,8 @@ demo_lines_text =
     ++ (codes "line dept.city -> unit.place;\n"
     ++ (codes "line emp.eid -> staff.sid;\n"
     ++ (codes "line emp.name -> staff.sname;\n"
-    ++ (codes "line phone.num -> staff.phone;\n" ++ (codes "line phone.num -> number.num;\n" ++ codes "line emp.name -> number.who;\n")))))
+    ++ (codes "line phone.num -> staff.phone;\n"
+    ++ (codes "line phone.num -> number.num;\n" ++ codes "line emp.name -> number.who;\n")))))
 
 abbrev pub demo_mapping_text : Text
 demo_mapping_text = codes "mapping 1;\n" ++ (demo_source_text ++ (target_text ++ demo_lines_text))
@@ -49,7 +50,9 @@ dept_record d = codes "d" ++ (decimal d ++ (codes "," ++ (town d ++ codes "\n"))
 
 -- an employee: there are 50 names and 10 departments
 abbrev pub emp_record : ℕ → Text
-emp_record i = codes "e" ++ (decimal i ++ (codes ",\"Name, " ++ (decimal (i % 50) ++ (codes "\",d" ++ (decimal (i % 10) ++ codes "\n")))))
+emp_record i =
+    codes "e" ++ (decimal i ++ (codes ",\"Name, "
+    ++ (decimal (i % 50) ++ (codes "\",d" ++ (decimal (i % 10) ++ codes "\n")))))
 
 -- the telephone of an employee: each fourth has one
 abbrev pub phone_record : ℕ → Text

@@ -25,11 +25,14 @@ RowsDiffer I t columns = (p q : ℕ) → p < q → q < length (rows_of I t) → 
 
 -- rows of the table that have the same values in the columns on the left have the same in those on the right
 abbrev pub RowsDetermine : List TableRows → ℕ → List ℕ → List ℕ → Type 0
-RowsDetermine I t left right = (p q : ℕ) → p < q → q < length (rows_of I t) → RowsAgree I t p left t left q → RowsAgree I t p right t right q
+RowsDetermine I t left right =
+    (p q : ℕ) → p < q → q < length (rows_of I t) → RowsAgree I t p left t left q → RowsAgree I t p right t right q
 
 -- the keys and the dependencies of a table of a schema hold in the rows of the table
 abbrev pub TableHolds : List TableRows → ℕ → TableOf → Type 0
-TableHolds I t table = Each table.keys (λ (k : Key). RowsDiffer I t k.columns) × Each table.deps (λ (d : Dep). RowsDetermine I t d.columns d.decides)
+TableHolds I t table =
+    Each table.keys (λ (k : Key). RowsDiffer I t k.columns)
+    × Each table.deps (λ (d : Dep). RowsDetermine I t d.columns d.decides)
 
 -- of the places whose rows have in these columns what the row at place p has, q is the least
 abbrev pub IsFirstLike : List TableRows → ℕ → List ℕ → ℕ → ℕ → Type 0
@@ -38,7 +41,8 @@ IsFirstLike I t columns p q = IsFirstWith I t columns (values_in columns (row_at
 -- each row of the table has the row that the link names
 abbrev pub RowsLead : List TableRows → ℕ → Link → Type 0
 RowsLead I t link =
-    (p : ℕ) → p < length (rows_of I t) → (q : ℕ) × (q < length (rows_of I link.table)) × RowsAgree I t p link.from link.table link.to q
+    (p : ℕ) → p < length (rows_of I t)
+    → (q : ℕ) × (q < length (rows_of I link.table)) × RowsAgree I t p link.from link.table link.to q
 
 -- a link goes from columns of the table to as many columns of a table
 pub record LinkFitsInstance (I : List TableRows) (width : ℕ) (link : Link) : Type 0 where

@@ -7,4 +7,5 @@ use Rattle.dx_model.specs.declared.rules.Cell.TheVariants.{Var}
 -- the least variable that is at least n
 abbrev pub IsLeast : List Cell → ℕ → Option ℕ → Type 0
 IsLeast cells n o =
-    MatchOption o ((x : ℕ) → Var x ∈ cells → x < n) (λ y. (n ≤ y) × (Var y ∈ cells) × ((x : ℕ) → Var x ∈ cells → n ≤ x → y ≤ x))
+    MatchOption o ((x : ℕ) → Var x ∈ cells → x < n)
+    (λ y. (n ≤ y) × (Var y ∈ cells) × ((x : ℕ) → Var x ∈ cells → n ≤ x → y ≤ x))

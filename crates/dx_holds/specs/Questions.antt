@@ -10,7 +10,8 @@ use Rattle.dx_model.specs.Rules.{cell_value, fact_of_atom}
 use Rattle.dx_instance.specs.Stored.{TableRows, facts, rows_of}
 use Rattle.dx_holds.specs.declared.matching.Found.{Found}
 use Rattle.dx_holds.specs.declared.question.Question.{Question}
-use Rattle.dx_holds.specs.Searching.{HaveNoMatch, IsState, AtomSaysRow, Misses, AddsExactly, HasNoMatchBetween, texts, variable_value}
+use Rattle.dx_holds.specs.Searching.{HaveNoMatch, IsState, AtomSaysRow, Misses, AddsExactly}
+use Rattle.dx_holds.specs.Searching.{HasNoMatchBetween, texts, variable_value}
 
 -- ---- what is asked
 
@@ -38,7 +39,8 @@ TakesValue I b values = values b.variable ≡ variable_value I b
 
 -- an answer settles P: either what is found now says exactly P more, or nothing that agrees with what was found has P
 abbrev pub Settles : Bool → List TableRows → Vec Found Global → Vec Found Global → ((ℕ → Value) → Type 0) → Type 0
-Settles answer I old new P = MatchBool answer (AddsExactly I (vec_capacity old) old.items P new.items) (Misses I old.items P new.items)
+Settles answer I old new P =
+    MatchBool answer (AddsExactly I (vec_capacity old) old.items P new.items) (Misses I old.items P new.items)
 
 -- what is found now says exactly this more: the atom says the row at this place
 abbrev pub FindsRow : Question → Vec Found Global → Vec Found Global → Atom → ℕ → Type 0
@@ -52,7 +54,8 @@ NowhereFrom q found a x = HasNoMatchBetween (texts_in q) q.target.now found a x 
 
 -- a place from x on, before which there is none whose row the atom says with what was found
 abbrev pub IsNextMatch : Question → List Found → Atom → ℕ → ℕ → Type 0
-IsNextMatch q found a x p = (x ≤ p) × (p < length (rows_of q.target.now a.table)) × HasNoMatchBetween (texts_in q) q.target.now found a x p
+IsNextMatch q found a x p =
+    (x ≤ p) × (p < length (rows_of q.target.now a.table)) × HasNoMatchBetween (texts_in q) q.target.now found a x p
 
 -- ---- atoms
 

@@ -66,7 +66,8 @@ abbrev pub ExtendsFound : List TableRows → List Found → (ℕ → Value) → 
 ExtendsFound I found values = Each found (λ b. values b.variable ≡ variable_value I b)
 
 -- new says exactly P beside what old says
-pub record AddsExactly (I : List TableRows) (n : ℕ) (old : List Found) (P : (ℕ → Value) → Type 0) (new : List Found) : Type 0 where
+pub record AddsExactly (I : List TableRows) (n : ℕ) (old : List Found) (P : (ℕ → Value) → Type 0)
+    (new : List Found) : Type 0 where
   pub begins : IsPrefix old new
   pub good : AreFoundCells I n new
   pub exact : (values : ℕ → Value) → ExtendsFound I new values ↔ (ExtendsFound I old values × P values)
@@ -84,7 +85,8 @@ AtomSaysRow T I a p values = map (cell_value T values) a.cells ≡ row_at I a.ta
 
 -- with what was found the atom says no row at a place from x up to y
 abbrev pub HasNoMatchBetween : (ℕ → Text) → List TableRows → List Found → Atom → ℕ → ℕ → Type 0
-HasNoMatchBetween T I found a x y = (p : ℕ) (values : ℕ → Value) → x ≤ p → p < y → ExtendsFound I found values → ¬ (AtomSaysRow T I a p values)
+HasNoMatchBetween T I found a x y =
+    (p : ℕ) (values : ℕ → Value) → x ≤ p → p < y → ExtendsFound I found values → ¬ (AtomSaysRow T I a p values)
 
 -- ---- atoms
 
@@ -97,11 +99,13 @@ abbrev pub HaveNoMatch : (ℕ → Text) → List Atom → List TableRows → Lis
 HaveNoMatch T A I found done = (values : ℕ → Value) → ExtendsFound I found values → ¬ (Rest T A (facts I) done values)
 
 -- what was found makes the atoms that are done facts
-pub record IsState (T : ℕ → Text) (A : List Atom) (I : List TableRows) (n : ℕ) (found : List Found) (done : List ℕ) : Type 0 where
+pub record IsState (T : ℕ → Text) (A : List Atom) (I : List TableRows) (n : ℕ) (found : List Found)
+    (done : List ℕ) : Type 0 where
   pub good : AreFoundCells I n found
   pub once : Distinct done
   pub within : Each done (λ i. i < length A)
-  pub says : (values : ℕ → Value) → ExtendsFound I found values → Each done (λ i. fact_of_atom T values (atom_at A i) ∈ facts I)
+  pub says : (values : ℕ → Value) → ExtendsFound I found values
+      → Each done (λ i. fact_of_atom T values (atom_at A i) ∈ facts I)
 
 -- an atom is wanted: each is, or those that have a variable that was found since
 abbrev pub IsAtomWanted : List Found → Option ℕ → Atom → Type 0

@@ -11,7 +11,9 @@ pub record BindingState : Type 0 where
 
 -- the cell of the null that was found at a place
 abbrev pub found_at : List Found → ℕ → Found
-found_at cells p = slice_index_or cells p (record { null = record { rule = 0; var = 0; row = 0 }; table = 0; place = 0; column = 0 })
+found_at cells p =
+    slice_index_or cells p (record
+    { null = record { rule = 0; var = 0; row = 0 }; table = 0; place = 0; column = 0 })
 
 -- the bucket of a null among m
 unfoldable pub bucket : ℕ → NullId → ℕ
@@ -21,7 +23,8 @@ bucket m n = (n.row * 625_341_585 + n.var * 461_845_907 + n.rule * 214_013_807) 
 abbrev pub buckets_of : ℕ → List Found → List ℕ
 buckets_of m cells = map (λ (b : Found). bucket m b.null) cells
 
--- heads has for each bucket one more than its last place, before for each place one more than the place before it in its bucket;
+-- heads has for each bucket one more than its last place,
+-- before for each place one more than the place before it in its bucket;
 -- 0 is none
 pub record AreLinked (buckets heads before : List ℕ) : Type 0 where
   pub many : length before ≡ length buckets

@@ -27,10 +27,13 @@ IsThere fixed avoid F B = (h : List NullPair) × IsSought fixed avoid F B h
 abbrev pub found_pairs : List TableRows → List Found → List NullPair
 found_pairs I found = map (λ (b : Found). record { null = b.null; value = null_value I b }) found
 
--- each null of F was found once, in a cell of the instance; a null map that gives them the values of their cells is sought
-pub record IsNullAssignment (I : List TableRows) (fixed : ByNull) (avoid : Option Fact) (F : List Fact) (found : List Found) : Type 0 where
+-- each null of F was found once, in a cell of the instance;
+-- a null map that gives them the values of their cells is sought
+pub record IsNullAssignment (I : List TableRows) (fixed : ByNull) (avoid : Option Fact) (F : List Fact)
+    (found : List Found) : Type 0 where
   pub once : Distinct (found_nulls found)
   pub nulls : (n : NullId) → (n ∈ found_nulls found) ↔ (Null n ∈ values F)
   pub cells : Each found (IsNullCell I)
-  pub gives : (h : List NullPair) → IsNullMap h → ((n : NullId) → Null n ∈ values F → given h n ≡ given (found_pairs I found) n)
+  pub gives : (h : List NullPair) → IsNullMap h
+      → ((n : NullId) → Null n ∈ values F → given h n ≡ given (found_pairs I found) n)
       → IsSought fixed avoid F (facts I) h

@@ -52,12 +52,14 @@ pub record IsGood (T : List TableRows) (fixed : ByNull) (found : List Found) : T
   pub allowed : (b : Found) → b ∈ found → Allows fixed b.null (null_value T b)
 
 -- g gives the fixed nulls their values, and each null that was found the value of its cell
-pub record ExtendsPartialMap (T : List TableRows) (fixed : ByNull) (found : List Found) (g : NullId → Value) : Type 0 where
+pub record ExtendsPartialMap (T : List TableRows) (fixed : ByNull) (found : List Found)
+    (g : NullId → Value) : Type 0 where
   pub fixed_values : (n : NullId) (x : Value) → finite.get fixed n ≡ Some x → g n ≡ x
   pub cell_values : (b : Found) → b ∈ found → g b.null ≡ null_value T b
 
 -- new finds the nulls ns as well, and says exactly P beside what old says
-pub record Narrows (T : List TableRows) (fixed : ByNull) (old : List Found) (ns : List NullId) (P : (NullId → Value) → Type 0)
+pub record Narrows (T : List TableRows) (fixed : ByNull) (old : List Found) (ns : List NullId)
+    (P : (NullId → Value) → Type 0)
     (new : List Found) : Type 0 where
   pub begins : IsPrefix old new
   pub good : IsGood T fixed new
@@ -66,7 +68,8 @@ pub record Narrows (T : List TableRows) (fixed : ByNull) (old : List Found) (ns 
   pub exact : (g : NullId → Value) → ExtendsPartialMap T fixed new g ↔ (ExtendsPartialMap T fixed old g × P g)
 
 -- nothing of which old is true has P
-pub record RulesOut (T : List TableRows) (fixed : ByNull) (old : List Found) (P : (NullId → Value) → Type 0) (new : List Found) : Type 0 where
+pub record RulesOut (T : List TableRows) (fixed : ByNull) (old : List Found)
+    (P : (NullId → Value) → Type 0) (new : List Found) : Type 0 where
   pub begins : IsPrefix old new
   pub none : (g : NullId → Value) → ExtendsPartialMap T fixed old g → ¬ (P g)
 
@@ -87,8 +90,10 @@ abbrev pub GivesRow : List TableRows → List Value → ℕ → ℕ → (NullId 
 GivesRow T row t p g = map (moved g) row ≡ row_at T t p
 
 -- the answer to the question whether something of which old is true has P: new says it beside old, or nothing has P
-abbrev pub IsNarrowed : List TableRows → ByNull → List NullId → ((NullId → Value) → Type 0) → BindingState → BindingState → Bool → Type 0
-IsNarrowed T fixed ns P old new b = MatchBool b (Narrows T fixed old.cells ns P new.cells) (RulesOut T fixed old.cells P new.cells)
+abbrev pub IsNarrowed : List TableRows → ByNull → List NullId → ((NullId → Value) → Type 0)
+    → BindingState → BindingState → Bool → Type 0
+IsNarrowed T fixed ns P old new b =
+    MatchBool b (Narrows T fixed old.cells ns P new.cells) (RulesOut T fixed old.cells P new.cells)
 
 -- the null, the value, the row is given what stands there, or can't be
 abbrev pub MeetsNull : List TableRows → ByNull → Found → BindingState → BindingState → Bool → Type 0

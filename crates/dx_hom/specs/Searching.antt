@@ -43,7 +43,8 @@ abbrev pub MovesOpen : List TableRows → List (List Bool) → Option Fact → (
 MovesOpen T gone avoid g F = (f : Fact) → f ∈ F → IsOpenFact T gone avoid (fact_moved g f)
 
 -- what is found is of all the nulls of F, and moves F
-pub record FindsAll (T : List TableRows) (gone : List (List Bool)) (fixed : ByNull) (avoid : Option Fact) (F : List Fact)
+pub record FindsAll (T : List TableRows) (gone : List (List Bool)) (fixed : ByNull)
+    (avoid : Option Fact) (F : List Fact)
     (found : List Found) : Type 0 where
   pub good : IsGood T fixed found
   pub whole : nulls_in (values F) ⊆ found_nulls found
@@ -52,17 +53,20 @@ pub record FindsAll (T : List TableRows) (gone : List (List Bool)) (fixed : ByNu
 
 -- nothing of which found is true moves F
 abbrev pub NoMore : List TableRows → List (List Bool) → ByNull → Option Fact → List Found → List Fact → Type 0
-NoMore T gone fixed avoid found F = (g : NullId → Value) → ExtendsPartialMap T fixed found g → ¬ (MovesOpen T gone avoid g F)
+NoMore T gone fixed avoid found F =
+    (g : NullId → Value) → ExtendsPartialMap T fixed found g → ¬ (MovesOpen T gone avoid g F)
 
 -- something gives the fixed nulls their values and moves F
 abbrev pub Reaches : List TableRows → List (List Bool) → ByNull → Option Fact → List Fact → Type 0
 Reaches T gone fixed avoid F =
-    (g : NullId → Value) × ((n : NullId) (x : Value) → finite.get fixed n ≡ Some x → g n ≡ x) × MovesOpen T gone avoid g F
+    (g : NullId → Value) × ((n : NullId) (x : Value) → finite.get fixed n ≡ Some x → g n ≡ x)
+    × MovesOpen T gone avoid g F
 
 -- nothing of which found is true moves the fact to one of the places from a up to b
 abbrev pub NotFrom : List TableRows → ByNull → List Found → Fact → ℕ → ℕ → Type 0
 NotFrom T fixed found f a b =
-    (p : ℕ) (g : NullId → Value) → a ≤ p → p < b → ExtendsPartialMap T fixed found g → ¬ (fact_moved g f ≡ fact_at T f.table p)
+    (p : ℕ) (g : NullId → Value) → a ≤ p → p < b → ExtendsPartialMap T fixed found g
+    → ¬ (fact_moved g f ≡ fact_at T f.table p)
 
 -- w is what each g moves v to that gives each null that was found the value of its cell
 abbrev pub IsKnownImage : List TableRows → List Found → Value → Value → Type 0
@@ -78,13 +82,17 @@ IsAhead T fixed found f a o =
 abbrev pub MovesTo : List TableRows → Fact → ℕ → (NullId → Value) → Type 0
 MovesTo T f p g = fact_moved g f ≡ fact_at T f.table p
 
--- the least open place from a on to which something of which old is true moves the fact: new says so beside old; or there is none
-abbrev pub IsNextMove : List TableRows → List (List Bool) → ByNull → Option Fact → Fact → ℕ → BindingState → BindingState → Option ℕ → Type 0
+-- the least open place from a on to which something of which old is true moves the fact: new says so beside old;
+-- or there is none
+abbrev pub IsNextMove : List TableRows → List (List Bool) → ByNull → Option Fact → Fact → ℕ
+    → BindingState → BindingState → Option ℕ → Type 0
 IsNextMove T gone fixed avoid f a old new o =
     MatchOption o ((new.cells ≡ old.cells) × Skips T gone fixed avoid old.cells f a (length (rows_of T f.table)))
     (λ p. (a ≤ p) × IsOpen T gone avoid f.table p × Skips T gone fixed avoid old.cells f a p
     × Narrows T fixed old.cells (nulls_in f.row) (MovesTo T f p) new.cells)
 
 -- the answer of a search
-abbrev pub IsSearched : List TableRows → List (List Bool) → ByNull → Option Fact → List Fact → List Found → Bool → Type 0
-IsSearched T gone fixed avoid F found b = MatchBool b (FindsAll T gone fixed avoid F found) (NoMore T gone fixed avoid [] F)
+abbrev pub IsSearched : List TableRows → List (List Bool) → ByNull → Option Fact → List Fact
+    → List Found → Bool → Type 0
+IsSearched T gone fixed avoid F found b =
+    MatchBool b (FindsAll T gone fixed avoid F found) (NoMore T gone fixed avoid [] F)

@@ -19,7 +19,8 @@ pub record IsPlainTestable (b : Between) (d : Rule) : Type 0 where
   pub clean : IsClean b.prefix.now d
   pub plain : d.derived ≡ []
 
--- the rule has no derived variables, and its atoms fit tables of these widths, those of the source and those of the target
+-- the rule has no derived variables, and its atoms fit tables of these widths,
+-- those of the source and those of the target
 pub record PlainRuleFits (source target : List ℕ) (d : Rule) : Type 0 where
   pub rule : IsRule d
   pub underived : Each d.derived (λ (e : Derived). ⊥)

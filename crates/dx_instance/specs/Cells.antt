@@ -1,5 +1,6 @@
 -- Rows of numbers, as they lie one after the other.
-use Rattle.std.specs.Prelude.{◌≡◌, ℕ, zero, suc, ◌+◌, ◌*◌, ◌%◌, ◌^◌, ◌<◌, List, [], ◌∷◌, ◌++◌, length, take, drop, fold, slice_index, slice_index_or, Option, MatchOption}
+use Rattle.std.specs.Prelude.{◌≡◌, ℕ, zero, suc, ◌+◌, ◌*◌, ◌%◌, ◌^◌, ◌<◌, List, [], ◌∷◌, ◌++◌, length}
+use Rattle.std.specs.Prelude.{take, drop, fold, slice_index, slice_index_or, Option, MatchOption}
 use Rattle.std.specs.Prelude.{false}
 use Rattle.std.specs.Ordering.{is_lt, nat_cmp}
 use Rattle.std.specs.Cmp.Lexicographic.{slice_cmp}
@@ -41,7 +42,9 @@ pub record AreInOrder (rows : List (List ℕ)) (places : List ℕ) : Type 0 wher
   pub many : length places ≡ length rows
   pub within : (k : ℕ) → k < length places → slice_index places k < length rows
   pub all : (p : ℕ) → p < length rows → p ∈ places
-  pub rise : (k : ℕ) → k + 1 < length places → is_lt (slice_cmp nat_cmp (numbers_at rows (slice_index places (k + 1))) (numbers_at rows (slice_index places k))) ≡ false
+  pub rise : (k : ℕ) → k + 1 < length places
+      → is_lt (slice_cmp nat_cmp (numbers_at rows (slice_index places (k + 1)))
+      (numbers_at rows (slice_index places k))) ≡ false
 
 -- the same rows in order, each once
 pub record IsOrderOf (old new : NumberTable) : Type 0 where

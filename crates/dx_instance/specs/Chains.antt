@@ -1,5 +1,6 @@
 -- Places of keys, each chained to the one before it with the same key.
-use Rattle.std.specs.Prelude.{◌≡◌, ℕ, zero, suc, ◌<◌, ◌≤◌, ◌^◌, map, take, drop, List, ◌==◌, length, nat_eq, slice_index, if◌then◌else◌}
+use Rattle.std.specs.Prelude.{◌≡◌, ℕ, zero, suc, ◌<◌, ◌≤◌, ◌^◌, map, take, drop, List}
+use Rattle.std.specs.Prelude.{◌==◌, length, nat_eq, slice_index, if◌then◌else◌}
 use Rattle.std.specs.Option.{unwrap_or}
 use Rattle.std.specs.HashMap.{get}
 use Rattle.dx_base.specs.Members.{Each}

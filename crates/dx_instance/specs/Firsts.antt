@@ -19,5 +19,7 @@ pub record AreFirstParts (part : ℕ → List ℕ) (n : ℕ) (parts : Parts) : T
   pub many : length parts.places.items ≡ length parts.rows.rows
   pub few : length parts.rows.rows ≤ n
   pub kept : (p : ℕ) → p < n → part p ∈ parts.rows.rows
-  pub is_part : (k : ℕ) → k < length parts.rows.rows → part (slice_index parts.places.items k) ≡ numbers_at parts.rows.rows k
-  pub is_first : (k : ℕ) → k < length parts.rows.rows → (r : ℕ) → r < slice_index parts.places.items k → ¬ (part r ≡ numbers_at parts.rows.rows k)
+  pub is_part : (k : ℕ) → k < length parts.rows.rows
+      → part (slice_index parts.places.items k) ≡ numbers_at parts.rows.rows k
+  pub is_first : (k : ℕ) → k < length parts.rows.rows → (r : ℕ) → r < slice_index parts.places.items k
+      → ¬ (part r ≡ numbers_at parts.rows.rows k)

@@ -17,10 +17,14 @@ entry_at x k = slice_index_or x.entries.items k (0, 0)
 -- the least place from a on whose row has the number
 abbrev pub IsNextWithNumber : List (List ℕ) → ℕ → ℕ → ℕ → Option ℕ → Type 0
 IsNextWithNumber rows column number a o =
-    MatchOption o (NoNumber rows column number a (length rows)) (λ p. (a ≤ p) × (p < length rows) × (number_in rows column p ≡ number) × NoNumber rows column number a p)
+    MatchOption o (NoNumber rows column number a (length rows))
+    (λ p. (a ≤ p) × (p < length rows) × (number_in rows column p ≡ number) × NoNumber rows column number a p)
 
 -- the entries are the numbers in the column, each with its place, ascending
 pub record IsColumnIndex (rows : List (List ℕ)) (x : ColumnIndex) : Type 0 where
-  pub each : (k : ℕ) → k < length x.entries.items → ((entry_at x k).1 < length rows) × ((entry_at x k).0 ≡ number_in rows x.column (entry_at x k).1)
+  pub each : (k : ℕ) → k < length x.entries.items
+      → ((entry_at x k).1 < length rows) × ((entry_at x k).0 ≡ number_in rows x.column (entry_at x k).1)
   pub all : (p : ℕ) → p < length rows → (k : ℕ) × (k < length x.entries.items) × ((entry_at x k).1 ≡ p)
-  pub up : (i j : ℕ) → i ≤ j → j < length x.entries.items → ((entry_at x i).0 < (entry_at x j).0) ⊎ (((entry_at x i).0 ≡ (entry_at x j).0) × ((entry_at x i).1 ≤ (entry_at x j).1))
+  pub up : (i j : ℕ) → i ≤ j → j < length x.entries.items
+      → ((entry_at x i).0 < (entry_at x j).0)
+      ⊎ (((entry_at x i).0 ≡ (entry_at x j).0) × ((entry_at x i).1 ≤ (entry_at x j).1))

@@ -1,5 +1,6 @@
 -- Numbers that compare as the first items of a list: lists are sorted by these first.
-use Rattle.std.specs.Prelude.{◌≡◌, ℕ, zero, suc, ◌+◌, ◌-◌, ◌*◌, ◌/◌, ◌%◌, ◌^◌, ◌<◌, ◌≤◌, ◌⊎◌, List, [], ◌∷◌, drop, length, map, slice_index, slice_index_or}
+use Rattle.std.specs.Prelude.{◌≡◌, ℕ, zero, suc, ◌+◌, ◌-◌, ◌*◌, ◌/◌, ◌%◌, ◌^◌, ◌<◌, ◌≤◌, ◌⊎◌}
+use Rattle.std.specs.Prelude.{List, [], ◌∷◌, drop, length, map, slice_index, slice_index_or}
 use Rattle.std.specs.Ordering.{nat_cmp, ordering_then}
 use Rattle.std.specs.declared.cmp.Ordering.{Ordering}
 use Rattle.std.specs.declared.cmp.Ordering.TheVariants.{Less, Equal, Greater}
@@ -74,7 +75,8 @@ AreSecondsOrNone symbols seconds = (seconds ≡ []) ⊎ AreSeconds symbols secon
 -- how the values at two places compare, by their second keys first
 abbrev pub long_cmp : List Value → List ℕ → Value → ℕ → ℕ → Ordering
 long_cmp symbols seconds blank m n =
-    ordering_then (nat_cmp (slice_index seconds m) (slice_index seconds n)) (value_cmp (slice_index_or symbols m blank) (slice_index_or symbols n blank))
+    ordering_then (nat_cmp (slice_index seconds m) (slice_index seconds n))
+    (value_cmp (slice_index_or symbols m blank) (slice_index_or symbols n blank))
 
 -- x if the length of a text says that it is short, and else y
 abbrev pub if_less : {X : Type 0} → Ordering → X → X → X
@@ -86,12 +88,14 @@ if_less Greater x y = y
 abbrev pub if_long : {X : Type 0} → List ℕ → X → (ℕ → X) → ℕ → X
 if_long lengths same at n = if_less (nat_cmp (slice_index lengths n) 9) same (at n)
 
--- how the values at two places compare whose keys are equal: by the lengths of their texts, and by the rest if these are long
+-- how the values at two places compare whose keys are equal: by the lengths of their texts,
+-- and by the rest if these are long
 abbrev pub tie_cmp : List Value → List ℕ → List ℕ → Value → ℕ → ℕ → Ordering
 tie_cmp symbols lengths seconds blank m n =
     ordering_then (nat_cmp (slice_index lengths m) (slice_index lengths n))
     (ordering_then (nat_cmp (if_long lengths 0 (slice_index seconds) m) (if_long lengths 0 (slice_index seconds) n))
-    (value_cmp (if_long lengths blank (λ k. slice_index_or symbols k blank) m) (if_long lengths blank (λ k. slice_index_or symbols k blank) n)))
+    (value_cmp (if_long lengths blank (λ k. slice_index_or symbols k blank) m)
+    (if_long lengths blank (λ k. slice_index_or symbols k blank) n)))
 
 -- the key of the item at a place, and the place
 pub record IsKeyAndPlace {X : Type 0} (at : ℕ → X) (key : X → ℕ) (Small : X → Type 0) (p : ℕ) (k : ℕ × ℕ) : Type 0 where
@@ -100,7 +104,8 @@ pub record IsKeyAndPlace {X : Type 0} (at : ℕ → X) (key : X → ℕ) (Small 
   pub small : Small (at p)
 
 -- the keys of the first n items
-pub record AreKeyed {X : Type 0} (at : ℕ → X) (key : X → ℕ) (Small : X → Type 0) (keys : List (ℕ × ℕ)) (n : ℕ) : Type 0 where
+pub record AreKeyed {X : Type 0} (at : ℕ → X) (key : X → ℕ) (Small : X → Type 0) (keys : List (ℕ × ℕ))
+    (n : ℕ) : Type 0 where
   pub many : length keys ≡ n
   pub all : (k : ℕ) → k < n → IsKeyAndPlace at key Small k (slice_index_or keys k (0, 0))
 
@@ -113,7 +118,9 @@ ValuesAreKeyed symbols keys n = AreKeyed (value_of symbols) value_key IsSmallVal
 
 -- the numbers of these keys have values of which they are the keys
 abbrev pub NumbersAreKeyed : List Value → List (ℕ × ℕ) → Type 0
-NumbersAreKeyed symbols keys = (k : ℕ) → k < length keys → IsKeyAndPlace (value_of symbols) value_key IsSmallValue (slice_index_or keys k (0, 0)).1 (slice_index_or keys k (0, 0))
+NumbersAreKeyed symbols keys =
+    (k : ℕ) → k < length keys → IsKeyAndPlace (value_of symbols) value_key IsSmallValue
+    (slice_index_or keys k (0, 0)).1 (slice_index_or keys k (0, 0))
 
 -- a number below that of all, with the key of its value
 pub record IsKeyIn (symbols : List Value) (k : ℕ × ℕ) : Type 0 where
@@ -125,12 +132,17 @@ pub record AreSorted (symbols : List Value) (numbers : List ℕ) : Type 0 where
   pub many : length numbers ≡ length symbols
   pub within : (k : ℕ) → k < length numbers → slice_index numbers k < length symbols
   pub all : (n : ℕ) → n < length symbols → n ∈ numbers
-  pub rise : (k : ℕ) → k + 1 < length numbers → ¬ (value_cmp (value_of symbols (slice_index numbers (k + 1))) (value_of symbols (slice_index numbers k)) ≡ Less)
+  pub rise : (k : ℕ) → k + 1 < length numbers
+      → ¬ (value_cmp (value_of symbols (slice_index numbers (k + 1)))
+      (value_of symbols (slice_index numbers k)) ≡ Less)
 
 -- the value of a number is above that of the number before it, if there is one
 abbrev pub IsRise : List Value → List ℕ → ℕ → Type 0
-IsRise symbols numbers k = 0 < k → value_cmp (value_of symbols (slice_index numbers (k - 1))) (value_of symbols (slice_index numbers k)) ≡ Less
+IsRise symbols numbers k =
+    0 < k → value_cmp (value_of symbols (slice_index numbers (k - 1)))
+    (value_of symbols (slice_index numbers k)) ≡ Less
 
 -- there is a number before it, and the value is the same
 abbrev pub IsRepeat : List Value → List ℕ → ℕ → Type 0
-IsRepeat symbols numbers k = (0 < k) × (value_of symbols (slice_index numbers k) ≡ value_of symbols (slice_index numbers (k - 1)))
+IsRepeat symbols numbers k =
+    (0 < k) × (value_of symbols (slice_index numbers k) ≡ value_of symbols (slice_index numbers (k - 1)))

@@ -1,5 +1,6 @@
 -- Null maps as finite maps.
-use Rattle.std.specs.Prelude.{◌≡◌, ℕ, List, map, refl, Bool, false, if◌then◌else◌, [], ◌∷◌, ◌++◌, ◌<◌, length, Option, Some, None, ◌⊎◌}
+use Rattle.std.specs.Prelude.{◌≡◌, ℕ, List, map, refl, Bool, false, if◌then◌else◌}
+use Rattle.std.specs.Prelude.{[], ◌∷◌, ◌++◌, ◌<◌, length, Option, Some, None, ◌⊎◌}
 use Rattle.std.specs.declared.cmp.Ordering.TheVariants.{Less}
 use Rattle.std.specs.FinMap as finite
 use Rattle.std.specs.Coded.{Coded, code_by, coded×, coded_ℕ}
@@ -14,7 +15,8 @@ use Rattle.dx_model.specs.Values.{Ascends, null_cmp}
 -- a null is stored as three numbers
 abbrev pub coded_null : Coded NullId
 coded_null =
-    code_by (ℕ × (ℕ × ℕ)) (coded× coded_ℕ (coded× coded_ℕ coded_ℕ)) (λ n. (n.rule, (n.var, n.row))) (λ p. record { rule = p.0; var = p.1.0; row = p.1.1 }) (λ _. refl)
+    code_by (ℕ × (ℕ × ℕ)) (coded× coded_ℕ (coded× coded_ℕ coded_ℕ)) (λ n. (n.rule, (n.var, n.row)))
+    (λ p. record { rule = p.0; var = p.1.0; row = p.1.1 }) (λ _. refl)
 
 -- values by null
 abbrev pub ByNull : Type 0

@@ -1,5 +1,6 @@
 -- Rows and values by their places, and places whose rows have some values in some columns.
-use Rattle.std.specs.Prelude.{◌≡◌, ℕ, ◌<◌, ◌≤◌, List, [], map, slice_index, slice_index_or, count_by, length, Option, Some, MatchOption}
+use Rattle.std.specs.Prelude.{◌≡◌, ℕ, ◌<◌, ◌≤◌, List, [], map, slice_index, slice_index_or}
+use Rattle.std.specs.Prelude.{count_by, length, Option, Some, MatchOption}
 use Rattle.dx_model.specs.declared.values.Value.{Value}
 use Rattle.dx_model.specs.Covers.{same_value}
 use Rattle.dx_model.specs.Tables.{cell, values_in}
@@ -35,7 +36,8 @@ rows_with I t column value = count_by (λ row. same_value (cell row column) valu
 -- for each place of a table the least whose row has in these columns what the row at the place has
 pub record AreFirsts (I : List TableRows) (t : ℕ) (columns places : List ℕ) : Type 0 where
   pub many : length places ≡ length (rows_of I t)
-  pub each : (p : ℕ) → p < length (rows_of I t) → IsFirstWith I t columns (values_in columns (row_at I t p)) 0 (Some (slice_index places p))
+  pub each : (p : ℕ) → p < length (rows_of I t)
+      → IsFirstWith I t columns (values_in columns (row_at I t p)) 0 (Some (slice_index places p))
 
 -- the fact at a place
 abbrev pub fact_at : List TableRows → ℕ → ℕ → Fact

@@ -1,5 +1,6 @@
 -- Numbers and their places in a list, and the texts of values one after the other.
-use Rattle.std.specs.Prelude.{◌≡◌, ℕ, ◌+◌, ◌-◌, ◌<◌, ◌≤◌, List, [], ◌∷◌, ◌++◌, IsUtf8, drop, length, map, slice_index, slice_index_or, take}
+use Rattle.std.specs.Prelude.{◌≡◌, ℕ, ◌+◌, ◌-◌, ◌<◌, ◌≤◌, List, [], ◌∷◌, ◌++◌, IsUtf8}
+use Rattle.std.specs.Prelude.{drop, length, map, slice_index, slice_index_or, take}
 use Rattle.dx_base.specs.Members.{Each}
 use Rattle.dx_model.specs.declared.values.Value.{Value}
 use Rattle.dx_model.specs.declared.values.Value.TheVariants.{Const, Null}
@@ -18,11 +19,14 @@ pub record AreFirstKeys (symbols : List Value) (firsts : List (ℕ × ℕ)) : Ty
   pub keyed : NumbersAreKeyed symbols firsts
 
 -- the first keys of each value among i numbers, and the ranks of these numbers: the last number has the last value
-pub record AreRankFirsts (symbols : List Value) (numbers : List ℕ) (firsts : List (ℕ × ℕ)) (ranks : List ℕ) (i : ℕ) : Type 0 where
+pub record AreRankFirsts (symbols : List Value) (numbers : List ℕ) (firsts : List (ℕ × ℕ))
+    (ranks : List ℕ) (i : ℕ) : Type 0 where
   pub fewer : length firsts ≤ i
   pub many : length ranks ≡ length symbols
   pub keys : AreFirstKeys symbols firsts
-  pub last : 0 < i → (0 < length firsts) × (value_of symbols (slice_index (places_of firsts) (length firsts - 1)) ≡ value_of symbols (slice_index numbers (i - 1)))
+  pub last : 0 < i → (0 < length firsts)
+      × (value_of symbols (slice_index (places_of firsts) (length firsts - 1))
+      ≡ value_of symbols (slice_index numbers (i - 1)))
   pub ranked : (k : ℕ) → k < i → HasRank symbols firsts ranks (slice_index numbers k)
 
 -- the keys of the distinct values in order, and the rank of each number

@@ -1,5 +1,6 @@
 -- The facts of a document, and its first fault.
-use Rattle.std.specs.Prelude.{◌≡◌, ℕ, List, [], ◌∷◌, ◌++◌, Option, Some, None, map, IsUtf8, ⊤, take, drop, if◌then◌else◌}
+use Rattle.std.specs.Prelude.{◌≡◌, ℕ, List, [], ◌∷◌, ◌++◌, Option, Some, None}
+use Rattle.std.specs.Prelude.{map, IsUtf8, ⊤, take, drop, if◌then◌else◌}
 use Rattle.std.specs.Str.{bytes_eq}
 use Rattle.serde_json.specs.Data.{Data, null, boolean, number, string, array, object}
 use Rattle.serde_json.specs.Read.{read}
@@ -18,7 +19,8 @@ tree_says t table null = wrong_shape [] ∷ []
 tree_says t table (boolean b) = wrong_shape [] ∷ []
 tree_says t table (number n) = wrong_shape [] ∷ []
 tree_says t table (string s) = wrong_shape [] ∷ []
-tree_says t table (array ds) = items_say t.label t.inner (sets_say t.inner) (record { table = table; up = None; path = [] }) 0 ds
+tree_says t table (array ds) =
+    items_say t.label t.inner (sets_say t.inner) (record { table = table; up = None; path = [] }) 0 ds
 tree_says t table (object ms) = wrong_shape [] ∷ []
 
 -- what a document says of a root of a schema
@@ -64,7 +66,8 @@ SaysFacts bytes schema root facts = (d : Data) × IsDocument bytes d × (documen
 -- why bytes give no facts: they are no document, or this is the first fault of what their document says of the root
 abbrev pub IsFirstDocumentFault : List ℕ → Forest → ℕ → JsonKind → Type 0
 IsFirstDocumentFault bytes schema root kind.NotJson = (d : Data) → ¬ (IsDocument bytes d)
-IsFirstDocumentFault bytes schema root k = (d : Data) × IsDocument bytes d × (first_fault (document_says schema root d) ≡ Some k)
+IsFirstDocumentFault bytes schema root k =
+    (d : Data) × IsDocument bytes d × (first_fault (document_says schema root d) ≡ Some k)
 
 -- why a document was not read: its first fault, or memory ran out
 abbrev pub HasDocumentFault : List ℕ → Forest → ℕ → JsonFault → Type 0

@@ -27,7 +27,8 @@ own_from inner is_inner = up_column inner + (if is_inner then 1 else 0)
 
 -- the object of a row: its columns, and what its inner sets put there for its `#id`
 abbrev pub object_of : Label → Forest → (Value → Members → Members) → Bool → List Value → Members
-object_of l inner deeper is_inner row = deeper (cell row 0) (with_columns l.columns (drop (own_from inner is_inner) row) no_members)
+object_of l inner deeper is_inner row =
+    deeper (cell row 0) (with_columns l.columns (drop (own_from inner is_inner) row) no_members)
 
 -- an object for each row, in order
 abbrev pub objects : (List Value → Members) → List (List Value) → Items
@@ -38,16 +39,19 @@ objects object_at (row ∷ rows) = item (object (object_at row)) (objects object
 abbrev pub rows_below : List TableRows → ℕ → Forest → Value → List (List Value)
 rows_below I table inner id = filter (λ row. same_value (cell row (up_column inner)) id) (rows_of I table)
 
--- with a member for each inner set, in order: the objects of the rows below this `#id`. The first set's table has this number
+-- with a member for each inner set, in order: the objects of the rows below this `#id`.
+-- The first set's table has this number
 abbrev pub with_sets : List TableRows → Forest → ℕ → Value → Members → Members
 with_sets I none table id ms = ms
 with_sets I (set l inner rest) table id ms =
     with_sets I rest (suc (table + count inner)) id
-    (put l.name (array (objects (object_of l inner (with_sets I inner (suc table)) true) (rows_below I table inner id))) ms)
+    (put l.name (array (objects (object_of l inner (with_sets I inner (suc table)) true)
+    (rows_below I table inner id))) ms)
 
 -- the objects of the rows of an inner set's table that are below this `#id`
 abbrev pub objects_below : List TableRows → Tree → ℕ → Value → Items
-objects_below I t table id = objects (object_of t.label t.inner (with_sets I t.inner (suc table)) true) (rows_below I table t.inner id)
+objects_below I t table id =
+    objects (object_of t.label t.inner (with_sets I t.inner (suc table)) true) (rows_below I table t.inner id)
 
 -- an object for each row of a root, whose table has this number
 abbrev pub root_objects : List TableRows → Tree → ℕ → Items

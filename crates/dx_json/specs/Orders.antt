@@ -1,5 +1,7 @@
--- The order of the members of an object: that of their names. A later member takes the place of an earlier one of its name.
-use Rattle.std.specs.Prelude.{◌≡◌, ℕ, zero, suc, ◌+◌, ◌<◌, ◌≤◌, ◌^◌, List, [], ◌∷◌, ◌++◌, Bool, true, false, length, map, slice_index_or, ⊤, String, string_bytes}
+-- The order of the members of an object: that of their names.
+-- A later member takes the place of an earlier one of its name.
+use Rattle.std.specs.Prelude.{◌≡◌, ℕ, zero, suc, ◌+◌, ◌<◌, ◌≤◌, ◌^◌, List, [], ◌∷◌, ◌++◌, Bool}
+use Rattle.std.specs.Prelude.{true, false, length, map, slice_index_or, ⊤, String, string_bytes}
 use Rattle.std.specs.declared.alloc.Global.{Global}
 use Rattle.std.specs.BTreeMap.{BTreeMap}
 use Rattle.std.specs.Ordering.{nat_cmp, match_ordering}
@@ -33,7 +35,8 @@ all_slots orders = map (λ o. slots_of o.entries) orders
 -- the members, with this one
 abbrev pub slot_put : Text → Source → Slots → Slots
 slot_put name s [] = (name, s) ∷ []
-slot_put name s (m ∷ ms) = match_ordering (slice_cmp nat_cmp name m.0) ((name, s) ∷ m ∷ ms) ((m.0, s) ∷ ms) (m ∷ slot_put name s ms)
+slot_put name s (m ∷ ms) =
+    match_ordering (slice_cmp nat_cmp name m.0) ((name, s) ∷ m ∷ ms) ((m.0, s) ∷ ms) (m ∷ slot_put name s ms)
 
 -- with a member for each of these columns, of which the first has this number
 abbrev pub with_cells : List Text → ℕ → Slots → Slots
@@ -43,7 +46,8 @@ with_cells (name ∷ names) c ms = with_cells names (suc c) (slot_put name (Cell
 -- with a member for each of these inner sets, of which the first has this place and this table
 abbrev pub with_inner : Forest → ℕ → ℕ → Slots → Slots
 with_inner none k table ms = ms
-with_inner (set l inner rest) k table ms = with_inner rest (suc k) (suc (table + count inner)) (slot_put l.name (Inner k table) ms)
+with_inner (set l inner rest) k table ms =
+    with_inner rest (suc k) (suc (table + count inner)) (slot_put l.name (Inner k table) ms)
 
 -- the members of the objects of a set
 abbrev pub order_of : Label → Forest → Bool → ℕ → Slots
@@ -52,7 +56,8 @@ order_of l inner is_inner table = with_inner inner 0 (suc table) (with_cells l.c
 -- those of the objects of inner sets, of which the first has this table, and of theirs, table by table
 abbrev pub orders_of : Forest → ℕ → List Slots
 orders_of none table = []
-orders_of (set l inner rest) table = order_of l inner true table ∷ (orders_of inner (suc table) ++ orders_of rest (suc (table + count inner)))
+orders_of (set l inner rest) table =
+    order_of l inner true table ∷ (orders_of inner (suc table) ++ orders_of rest (suc (table + count inner)))
 
 -- the set at a place of a level
 abbrev pub tree_in : Forest → ℕ → Tree
@@ -79,11 +84,13 @@ members_with_values value (m ∷ ms) = member m.0 (value m.1) (members_with_valu
 abbrev pub object_in : List TableRows → Forest → List Value → BTreeMap (String Global) Source → Members
 object_in I inner row order = members_with_values (source_data I inner row) (slots_of order.entries)
 
--- each of the sets has its table there, with its columns, and its order at the table's number; the first one's table has this number
+-- each of the sets has its table there, with its columns, and its order at the table's number;
+-- the first one's table has this number
 abbrev pub Ready : List TableRows → List Slots → ℕ → Forest → Type 0
 Ready I orders table none = ⊤
 Ready I orders table (set l inner rest) =
-    (table < length I) × (own_from inner true + length l.columns ≤ (table_at I table).width) × (table < length orders) × (slice_index_or orders table [] ≡ order_of l inner true table)
+    (table < length I) × (own_from inner true + length l.columns ≤ (table_at I table).width)
+    × (table < length orders) × (slice_index_or orders table [] ≡ order_of l inner true table)
     × Ready I orders (suc table) inner × Ready I orders (suc (table + count inner)) rest
 
 -- so is a set alone
@@ -111,7 +118,8 @@ pub record IsReadyRoot (I : List TableRows) (orders : List Slots) (root : ℕ) (
 -- a source is a column below this width, or one of the inner sets
 abbrev pub SourceFits : List TableRows → List Slots → ℕ → Forest → Source → Type 0
 SourceFits I orders width inner (Cell c) = c < width
-SourceFits I orders width inner (Inner k table) = (k < level_length inner) × TreeIsReady I orders table (tree_in inner k)
+SourceFits I orders width inner (Inner k table) =
+    (k < level_length inner) × TreeIsReady I orders table (tree_in inner k)
 
 -- the sources of members are
 abbrev pub Fit : List TableRows → List Slots → ℕ → Forest → Slots → Type 0

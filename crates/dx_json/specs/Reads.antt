@@ -1,4 +1,5 @@
--- What the first of some tokens are read as, and the tokens after them. Arrays and objects nest no deeper than the number.
+-- What the first of some tokens are read as, and the tokens after them.
+-- Arrays and objects nest no deeper than the number.
 use Rattle.std.specs.Prelude.{ℕ, List, length, Option}
 use Rattle.json.specs.Json.{items, members, value}
 use Rattle.json.specs.Token.{Token}

@@ -1,7 +1,9 @@
 -- What a document says of a set: facts, and faults, in the order in which they are met.
-use Rattle.std.specs.Prelude.{◌≡◌, ℕ, suc, map, ◌+◌, List, [], ◌∷◌, ◌++◌, codes, Option, Some, None, Bool, true, false, ◌||◌, if◌then◌else◌}
+use Rattle.std.specs.Prelude.{◌≡◌, ℕ, suc, map, ◌+◌, List, [], ◌∷◌, ◌++◌, codes, Option}
+use Rattle.std.specs.Prelude.{Some, None, Bool, true, false, ◌||◌, if◌then◌else◌}
 use Rattle.std.specs.Fmt.{decimal, signed_decimal}
-use Rattle.serde_json.specs.Data.{Num, unsigned, negative, float, Data, null, boolean, number, string, array, object, Items, no_items, item, Members, no_members, member}
+use Rattle.serde_json.specs.Data.{Num, unsigned, negative, float, Data, null, boolean, number, string}
+use Rattle.serde_json.specs.Data.{array, object, Items, no_items, item, Members, no_members, member}
 use Rattle.serde_json.specs.Find.{get_member}
 use Rattle.dx_base.specs.Texts.{Text}
 use Rattle.dx_model.specs.declared.values.Value.{Value}
@@ -68,7 +70,8 @@ member_text no_constant = []
 -- the faults of an object's columns, in their order
 abbrev pub column_faults : Text → List Text → Members → List DocumentItem
 column_faults path [] ms = []
-column_faults path (c ∷ cs) ms = reading_faults (path_below path c) (reading_of (get_member c ms)) ++ column_faults path cs ms
+column_faults path (c ∷ cs) ms =
+    reading_faults (path_below path c) (reading_of (get_member c ms)) ++ column_faults path cs ms
 
 -- the constants of an object's columns
 abbrev pub object_constants : List Text → Members → List Value
@@ -92,7 +95,8 @@ is_known l inner name = is_among name l.columns || is_among name (level_names in
 abbrev pub unknown_members : Text → Label → Forest → Members → List DocumentItem
 unknown_members path l inner no_members = []
 unknown_members path l inner (member name d ms) =
-    (if is_known l inner name then [] else unknown_member (path_below path name) ∷ []) ++ unknown_members path l inner ms
+    (if is_known l inner name then [] else unknown_member (path_below path name) ∷ [])
+    ++ unknown_members path l inner ms
 
 -- ---- objects
 
@@ -111,10 +115,13 @@ object_row l inner up id ms = where_has_inner inner (Const id) ++ (up_cell up ++
 
 -- an object's columns at this path have no fault, and these are the constants of its row
 abbrev pub IsObjectRow : Text → Tree → Option Text → Text → Members → List Text → Type 0
-IsObjectRow path t up id ms texts = (column_faults path t.label.columns ms ≡ []) × (map Const texts ≡ object_row t.label t.inner up id ms)
+IsObjectRow path t up id ms texts =
+    (column_faults path t.label.columns ms ≡ []) × (map Const texts ≡ object_row t.label t.inner up id ms)
 
--- what the k-th object of a list says: its unknown members, the faults of its columns, its row, and what its inner sets say
-abbrev pub object_says : Label → Forest → (Place → Members → List DocumentItem) → Place → ℕ → Members → List DocumentItem
+-- what the k-th object of a list says: its unknown members, the faults of its columns, its row,
+-- and what its inner sets say
+abbrev pub object_says : Label → Forest → (Place → Members → List DocumentItem) → Place → ℕ → Members
+    → List DocumentItem
 object_says l inner deeper at k ms =
     let path = path_below at.path (decimal k) in
     let id = id_of at.up k in
@@ -138,7 +145,8 @@ items_say l inner deeper at k no_items = []
 items_say l inner deeper at k (item d ds) = item_says l inner deeper at k d ++ items_say l inner deeper at (suc k) ds
 
 -- the member of an inner set: an array, `null` or absent
-abbrev pub member_says : Label → Forest → (Place → Members → List DocumentItem) → Place → Option Data → List DocumentItem
+abbrev pub member_says : Label → Forest → (Place → Members → List DocumentItem) → Place → Option Data
+    → List DocumentItem
 member_says l inner deeper at None = []
 member_says l inner deeper at (Some null) = []
 member_says l inner deeper at (Some (boolean b)) = wrong_shape at.path ∷ []
@@ -151,7 +159,8 @@ member_says l inner deeper at (Some (object ms)) = wrong_shape at.path ∷ []
 abbrev pub sets_say : Forest → Place → Members → List DocumentItem
 sets_say none at ms = []
 sets_say (set l inner rest) at ms =
-    member_says l inner (sets_say inner) (record { table = at.table; up = at.up; path = path_below at.path l.name }) (get_member l.name ms) ++
+    member_says l inner (sets_say inner)
+    (record { table = at.table; up = at.up; path = path_below at.path l.name }) (get_member l.name ms) ++
     sets_say rest (record { table = suc (at.table + count inner); up = at.up; path = at.path }) ms
 
 -- ---- the same of a set with its inner sets

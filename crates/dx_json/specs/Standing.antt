@@ -9,4 +9,5 @@ use Rattle.dx_json.specs.Nesting.{own_from}
 abbrev pub Stand : List TableRows → ℕ → Forest → Type 0
 Stand I table none = ⊤
 Stand I table (set l inner rest) =
-    (table < length I) × (own_from inner true + length l.columns ≤ (table_at I table).width) × Stand I (suc table) inner × Stand I (suc (table + count inner)) rest
+    (table < length I) × (own_from inner true + length l.columns ≤ (table_at I table).width)
+    × Stand I (suc table) inner × Stand I (suc (table + count inner)) rest

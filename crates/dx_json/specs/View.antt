@@ -1,7 +1,8 @@
 -- The data that a tree stands for.
 use Rattle.std.specs.Prelude.{ℕ, List, [], ◌∷◌, map, Option, option_map}
 use Rattle.std.specs.Borrow.{Bor}
-use Rattle.serde_json.specs.Data.{Data, null, boolean, number, string, array, object, Items, Members, no_members, member}
+use Rattle.serde_json.specs.Data.{Data, null, boolean, number, string, array}
+use Rattle.serde_json.specs.Data.{object, Items, Members, no_members, member}
 use Rattle.serde_json.specs.View.{items_of, number_view}
 use Rattle.dx_json.specs.declared.tree.Json.{Json, fold-Json}
 use Rattle.dx_json.specs.declared.tree.Json.TheOpen.{Json-F}

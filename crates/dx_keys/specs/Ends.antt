@@ -27,7 +27,8 @@ pub record EndsInClash (schema : List Table) (A : List Fact) : Type 0 where
 -- key steps, one after the other, are at most as many as the instance has values
 abbrev pub StepsAreFew : Type 0
 StepsAreFew =
-    (schema : List Table) (A : List Fact) (steps : List NullPair) → IsInstance schema A → AreSteps schema A steps → length steps ≤ length (values A)
+    (schema : List Table) (A : List Fact) (steps : List NullPair) → IsInstance schema A
+    → AreSteps schema A steps → length steps ≤ length (values A)
 
 -- each instance of the schema has the one or the other
 abbrev pub EveryChaseEnds : Type 0
@@ -37,7 +38,8 @@ EveryChaseEnds = (schema : List Table) (A : List Fact) → IsInstance schema A �
 abbrev pub EndsOnce : Type 0
 EndsOnce = (schema : List Table) (A : List Fact) → IsInstance schema A → EndsInMap schema A → ¬ (EndsInClash schema A)
 
--- each clash has a form in which the chase answers it: by its rows, the lesser first, and the number of its determination
+-- each clash has a form in which the chase answers it: by its rows, the lesser first,
+-- and the number of its determination
 abbrev pub ClashHasAnswer : Type 0
 ClashHasAnswer = (schema : List Table) (A : List Fact) → EndsInClash schema A → (c : Clash) × IsClash schema A c
 

@@ -49,7 +49,8 @@ steps_of S ss = map (pair_of S) ss
 abbrev pub null_pairs_from : List Value → List ℕ → ℕ → List Value → List NullPair
 null_pairs_from S roots i [] = []
 null_pairs_from S roots i (v ∷ vs) =
-    cond (nat_eq (nth roots i) i) (null_pairs_from S roots (i + 1) vs) (record { null = null_of v; value = cell S (nth roots i) } ∷ null_pairs_from S roots (i + 1) vs)
+    cond (nat_eq (nth roots i) i) (null_pairs_from S roots (i + 1) vs)
+    (record { null = null_of v; value = cell S (nth roots i) } ∷ null_pairs_from S roots (i + 1) vs)
 
 -- the null map of roots
 abbrev pub null_map_of : List Value → List ℕ → List NullPair
@@ -75,14 +76,16 @@ pub record IsNumbering (I : List TableRows) (n : Numbering) : Type 0 where
 pub record AreTablesIn (schema : List Table) (rows : List TableOfNumbers) (tables : List ChaseTable) : Type 0 where
   pub many : length tables ≡ length rows
   pub rows_are : (t : ℕ) → t < length tables → (number_table tables t).rows ≡ (numbers_of_table rows t).rows
-  pub determined : (t : ℕ) → t < length tables → map determination_of (number_table tables t).determinations ≡ (table_of schema t).determinations
+  pub determined : (t : ℕ) → t < length tables
+      → map determination_of (number_table tables t).determinations ≡ (table_of schema t).determinations
 
 -- the row of a demand, each number read at its root
 abbrev pub row_read : List Value → List ChaseTable → List ℕ → Demand → List Value
 row_read S tables roots d = map (cell S) (map (nth roots) (number_row tables d.table d.row))
 
 -- what is asked of a demand whose row is read: it is there, and the numbers of rows, and their roots, stand for values
-pub record CanReadDemand (S : List Value) (tables : List ChaseTable) (roots : List ℕ) (demands : List Demand) (i : ℕ) : Type 0 where
+pub record CanReadDemand (S : List Value) (tables : List ChaseTable) (roots : List ℕ)
+    (demands : List Demand) (i : ℕ) : Type 0 where
   pub roots_are : AreNumberRoots S roots
   pub below : TablesAreBelow (length S) tables
   pub demand : IsRowDemand tables (demand_at demands i)
@@ -99,13 +102,16 @@ pub record CanRead (S : List Value) (tables : List ChaseTable) (c : RowsChased) 
   pub column_in : p.column < length (demand_at c.demands p.one).right
 
 -- a clash by values: the two rows are those of its demands, in order
-pub record IsClashByValues (S : List Value) (tables : List ChaseTable) (c : RowsChased) (p : ClashAt) (k : Clash) : Type 0 where
+pub record IsClashByValues (S : List Value) (tables : List ChaseTable) (c : RowsChased) (p : ClashAt)
+    (k : Clash) : Type 0 where
   pub steps_are : k.steps ≡ steps_of S c.chased.steps
   pub table_is : k.table ≡ (demand_at c.demands p.one).table
   pub key_is : k.key ≡ (demand_at c.demands p.one).determination
   pub column_is : k.column ≡ nth (determination_columns tables k.table k.key).right p.column
-  pub rows_are : ((k.left ≡ row_read S tables c.chased.roots (demand_at c.demands p.one)) × (k.right ≡ row_read S tables c.chased.roots (demand_at c.demands p.other)))
-      ⊎ ((k.left ≡ row_read S tables c.chased.roots (demand_at c.demands p.other)) × (k.right ≡ row_read S tables c.chased.roots (demand_at c.demands p.one)))
+  pub rows_are : ((k.left ≡ row_read S tables c.chased.roots (demand_at c.demands p.one))
+      × (k.right ≡ row_read S tables c.chased.roots (demand_at c.demands p.other)))
+      ⊎ ((k.left ≡ row_read S tables c.chased.roots (demand_at c.demands p.other))
+      × (k.right ≡ row_read S tables c.chased.roots (demand_at c.demands p.one)))
   pub in_order : ¬ (row_cmp k.left k.right ≡ Greater)
 
 -- an instance of a schema under numbers
@@ -119,7 +125,8 @@ pub record IsNumbered (f : Forest) (I : List TableRows) (n : Numbering) : Type 0
 abbrev pub AnswersBy : List Table → List TableRows → Numbering → List ℕ → Type 0
 AnswersBy schema I n roots =
     (m : ByNull) (K : List TableRows) → pairs_of m ≡ null_map_of n.symbols roots
-    → IsSorting (shown_tables n.symbols (map (renumbered roots) n.tables.items)) K → IsChased schema I (record { instance = K; map = m })
+    → IsSorting (shown_tables n.symbols (map (renumbered roots) n.tables.items)) K
+    → IsChased schema I (record { instance = K; map = m })
 
 -- an instance of a schema under numbers, and its rows by these, with what its keys determine
 pub record IsNumberedInstance (f : Forest) (I : List TableRows) (n : Numbering) (rows : List ChaseTable) : Type 0 where

@@ -9,4 +9,5 @@ AnswersOrFault {A} result x fault = MatchResult result (λ (y : A). (y ≡ x) ×
 
 -- the same, but an Err may also say that there is no memory
 abbrev pub ReadsOrMemory : {A : Type 0} → Result A TextFault → A → Option TextFault → Type 0
-ReadsOrMemory {A} result x fault = MatchResult result (λ (y : A). (y ≡ x) × (fault ≡ None)) (λ e. (e ≡ Memory) ⊎ (fault ≡ Some e))
+ReadsOrMemory {A} result x fault =
+    MatchResult result (λ (y : A). (y ≡ x) × (fault ≡ None)) (λ e. (e ≡ Memory) ⊎ (fault ≡ Some e))

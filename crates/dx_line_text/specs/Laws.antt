@@ -18,8 +18,11 @@ IsOfNames e = (place : ℕ) × ((e ≡ At place UnknownName) ⊎ (e ≡ At place
 -- a fault of lines is a word that names nothing, or another number of arguments
 abbrev pub NamesAlone : Type 0
 NamesAlone =
-    (source target : Forest) (list : List Conversion) (lines : List LineText) (e : TextFault) → lines_fault source target list lines ≡ Some e → IsOfNames e
+    (source target : Forest) (list : List Conversion) (lines : List LineText) (e : TextFault)
+    → lines_fault source target list lines ≡ Some e → IsOfNames e
 
 -- a fault of conditions is a word that names nothing
 abbrev pub UnknownAlone : Type 0
-UnknownAlone = (source : Forest) (list : List RowTest) (conditions : List OnlyText) (e : TextFault) → conditions_fault source list conditions ≡ Some e → (place : ℕ) × (e ≡ At place UnknownName)
+UnknownAlone =
+    (source : Forest) (list : List RowTest) (conditions : List OnlyText) (e : TextFault)
+    → conditions_fault source list conditions ≡ Some e → (place : ℕ) × (e ≡ At place UnknownName)

@@ -43,7 +43,8 @@ name_fault names x place = cond (is_among x names) None (Some (At place UnknownN
 -- of a place its set is looked at, then its column
 abbrev pub place_fault : Forest → PlaceText → Option TextFault
 place_fault f p =
-    cond (is_among p.set (set_names f)) (name_fault (columns_in f p.set) p.column p.column_place) (Some (At p.set_place UnknownName))
+    cond (is_among p.set (set_names f)) (name_fault (columns_in f p.set) p.column p.column_place)
+    (Some (At p.set_place UnknownName))
 
 -- the first fault of places, from left to right
 abbrev pub places_fault : Forest → List PlaceText → Option TextFault
@@ -91,7 +92,8 @@ origin_of f list (sources.Call name place args) = call_of f (first_named list na
 
 -- a line, by the numbers of what it names
 abbrev pub line_of_text : Forest → Forest → List Conversion → LineText → Line
-line_of_text source target list l = record { target = place_of_text target l.target; source = origin_of source list l.source }
+line_of_text source target list l =
+    record { target = place_of_text target l.target; source = origin_of source list l.source }
 
 -- lines, by the numbers of what they name
 abbrev pub lines_of : Forest → Forest → List Conversion → List LineText → List Line

@@ -1,5 +1,6 @@
 -- The limits of lines between two schemas.
-use Rattle.std.specs.Prelude.{ℕ, suc, ◌<◌, Bool, cond, nat_lt, Option, Some, None, List, [], ◌∷◌, ◌++◌, map, flat_map, length}
+use Rattle.std.specs.Prelude.{ℕ, suc, ◌<◌, Bool, cond, nat_lt, Option, Some}
+use Rattle.std.specs.Prelude.{None, List, [], ◌∷◌, ◌++◌, map, flat_map, length}
 use Rattle.std.specs.List.{list_any}
 use Rattle.dx_base.specs.declared.file.Limit.{Limit}
 use Rattle.dx_base.specs.declared.file.Count.TheVariants.{Variants, Occurrences, Ways, Candidates}
@@ -39,14 +40,17 @@ passed_by schema = map (passed_at schema) (upto (length schema))
 
 -- a variant of a source table and one of a target table have too many ways
 abbrev pub has_many_ways : List Line → List Table → List Table → Bool
-has_many_ways lines source target = list_any (λ s. list_any (λ t. nat_lt WAYS (length (pair_ways lines s t))) (all_variants target)) (all_variants source)
+has_many_ways lines source target =
+    list_any (λ s. list_any (λ t. nat_lt WAYS (length (pair_ways lines s t))) (all_variants target))
+    (all_variants source)
 
 -- the first limit that is passed: those of the source's tables, then those of the target's, then ways, then candidates
 abbrev pub passed_limit : List Line → List Table → List Table → Option Limit
 passed_limit lines source target =
     first_or (passed_by source ++ passed_by target)
     (cond (has_many_ways lines source target) (Some (record { what = Ways; number = WAYS }))
-    (cond (nat_lt CANDIDATES (length (candidates_of lines source target))) (Some (record { what = Candidates; number = CANDIDATES })) None))
+    (cond (nat_lt CANDIDATES (length (candidates_of lines source target)))
+    (Some (record { what = Candidates; number = CANDIDATES })) None))
 
 -- a place is a column of a schema
 pub record IsSchemaColumn (schema : List Table) (a : Place) : Type 0 where

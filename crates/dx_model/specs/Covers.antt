@@ -1,5 +1,6 @@
 -- Cell maps between rules, the rules before a rule, covered places, the uncovered part and the cover fold.
-use Rattle.std.specs.Prelude.{◌≡◌, ℕ, zero, suc, ◌<◌, ◌⊎◌, Bool, true, false, not, cond, eqb, nat_lt, ◌&&◌, ◌||◌, Option, None, Some, List, [], ◌∷◌, ◌++◌, map, flat_map, length, take, slice_index_or}
+use Rattle.std.specs.Prelude.{◌≡◌, ℕ, zero, suc, ◌<◌, ◌⊎◌, Bool, true, false, not, cond, eqb, nat_lt, ◌&&◌, ◌||◌}
+use Rattle.std.specs.Prelude.{Option, None, Some, List, [], ◌∷◌, ◌++◌, map, flat_map, length, take, slice_index_or}
 use Rattle.std.specs.List.{filter, find, list_all}
 use Rattle.std.specs.Str.{bytes_eq}
 use Rattle.dx_base.specs.Members.{◌∈◌, Each}
@@ -74,11 +75,13 @@ meetings [] bs = []
 meetings (a ∷ atoms) [] = []
 meetings (a ∷ atoms) (b ∷ bs) = meet a.cells b.cells ++ meetings atoms bs
 
--- all ways to choose for each atom one of the others with the same table, in the order of the numbers of the chosen ones
+-- all ways to choose for each atom one of the others with the same table,
+-- in the order of the numbers of the chosen ones
 abbrev pub choices : List Atom → List Atom → List (List Atom)
 choices [] others = [] ∷ []
 choices (a ∷ atoms) others =
-    flat_map (λ (b : Atom). map (λ bs. b ∷ bs) (choices atoms others)) (filter (λ (b : Atom). eqb a.table b.table) others)
+    flat_map (λ (b : Atom). map (λ bs. b ∷ bs) (choices atoms others))
+    (filter (λ (b : Atom). eqb a.table b.table) others)
 
 -- the cell that a cell meets first
 abbrev pub first_met : Cell → List Meeting → Cell
@@ -162,7 +165,8 @@ rank R i = count_before R i (length R)
 -- what a cell of rule j is at place l
 abbrev pub cell_value_at : List Rule → Rows → ℕ → ℕ → Cell → Value
 cell_value_at R rows j l =
-    cell_value (text_of (exported (rule_at R j)) (tuple_at rows j l)) (λ v. Null (record { rule = j; var = v; row = l }))
+    cell_value (text_of (exported (rule_at R j)) (tuple_at rows j l))
+    (λ v. Null (record { rule = j; var = v; row = l }))
 
 -- k is a place of rule i
 abbrev pub IsPlace : List Rule → Rows → ℕ → ℕ → Type 0
@@ -182,7 +186,8 @@ value_under R rows i c e = cell_value_at R rows c.rule c.row (cell_under (rule_a
 
 -- under c's cell map the exported variables have the values that they have at place k of rule i
 abbrev pub SameExported : List Rule → Rows → ℕ → ℕ → Cover → Type 0
-SameExported R rows i k c = Each (exported (rule_at R i)) (λ x. cell_value_at R rows i k (Var x) ≡ value_under R rows i c (Var x))
+SameExported R rows i k c =
+    Each (exported (rule_at R i)) (λ x. cell_value_at R rows i k (Var x) ≡ value_under R rows i c (Var x))
 
 -- c covers place k of rule i: a cell map under which the exported variables have the same values
 pub record Covers (R : List Rule) (rows : Rows) (i k : ℕ) (c : Cover) : Type 0 where
@@ -213,7 +218,8 @@ cover_choices R rows i =
 -- the test of SameExported
 abbrev pub agrees : List Rule → Rows → ℕ → ℕ → Cover → Bool
 agrees R rows i k c =
-    list_all (λ x. same_value (cell_value_at R rows i k (Var x)) (value_under R rows i c (Var x))) (exported (rule_at R i))
+    list_all (λ x. same_value (cell_value_at R rows i k (Var x)) (value_under R rows i c (Var x)))
+    (exported (rule_at R i))
 
 -- the least cover of place k of rule i
 abbrev pub least_cover : List Rule → Rows → ℕ → ℕ → Option Cover
@@ -222,7 +228,8 @@ least_cover R rows i k = find (agrees R rows i k) (cover_choices R rows i)
 -- the facts of those of rule i's places from k on that nothing covers
 abbrev pub uncovered_places : (ℕ → ℕ → Option Cover) → ℕ → Rule → ℕ → List Tuple → List Fact
 uncovered_places cover i d k [] = []
-uncovered_places cover i d k (t ∷ ts) = elim (cover i k) [ None ↦ at_place i d k t | Some c ↦ [] ] ++ uncovered_places cover i d (suc k) ts
+uncovered_places cover i d k (t ∷ ts) =
+    elim (cover i k) [ None ↦ at_place i d k t | Some c ↦ [] ] ++ uncovered_places cover i d (suc k) ts
 
 -- the uncovered part of the canonical instance of the rules from number i on
 abbrev pub uncovered : (ℕ → ℕ → Option Cover) → ℕ → List Rule → Rows → List Fact
@@ -248,7 +255,8 @@ uncovered_part R rows = uncovered (least_cover R rows) 0 R rows
 abbrev pub is_of_place : List Rule → Rows → NullId → Bool
 is_of_place R rows n =
     nat_lt n.rule (length R) && (nat_lt n.rule (length rows)
-    && (nat_lt n.row (length (slice_index_or rows n.rule [])) && nat_lt n.var (after_existential (cells_of (rule_at R n.rule).conclusion))))
+    && (nat_lt n.row (length (slice_index_or rows n.rule []))
+    && nat_lt n.var (after_existential (cells_of (rule_at R n.rule).conclusion))))
 
 -- the cover fold: it folds the nulls of places, and all others stay
 abbrev pub cover_fold : List Rule → Rows → NullId → Value

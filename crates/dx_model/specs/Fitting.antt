@@ -1,5 +1,6 @@
 -- Rules that fit: by themselves, two schemas, or the widths of tables.
-use Rattle.std.specs.Prelude.{◌≡◌, ℕ, suc, ◌+◌, ◌-◌, ◌^◌, ◌<◌, ◌≤◌, ◌⊎◌, Some, List, [], ◌∷◌, flat_map, length, slice_get}
+use Rattle.std.specs.Prelude.{◌≡◌, ℕ, suc, ◌+◌, ◌-◌, ◌^◌, ◌<◌, ◌≤◌, ◌⊎◌, Some}
+use Rattle.std.specs.Prelude.{List, [], ◌∷◌, flat_map, length, slice_get}
 use Rattle.dx_base.specs.Members.{◌∈◌, Each}
 use Rattle.dx_model.specs.declared.rules.Cell.{Cell}
 use Rattle.dx_model.specs.declared.rules.Cell.TheVariants.{Var, Ex, Lit}
@@ -39,8 +40,8 @@ premise_variables d = after_cells (cells_of d.premise)
 
 -- ---- rules by themselves
 
--- a rule by itself: variables are numbered by first appearance, premises have variables alone, conversions take variables of
--- the premise, and each variable of the conclusion is one of the premise or a derived one
+-- a rule by itself: variables are numbered by first appearance, premises have variables alone, conversions take
+-- variables of the premise, and each variable of the conclusion is one of the premise or a derived one
 pub record IsRule (d : Rule) : Type 0 where
   pub some_premise : 0 < length d.premise
   pub plain : Each d.premise (λ a. Each a.cells IsVariable)

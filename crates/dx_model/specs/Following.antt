@@ -40,8 +40,8 @@ underived R = filter (λ (d : Rule). are_none d.derived) R
 abbrev pub CanGo : Conversions → List Rule → Rule → Type 0
 CanGo convert others d = (d.derived ≡ []) × Follows convert (underived others) d
 
--- P is what is left of R beside the rules in front of it, which stay: its rules are tried from the last to the first, and
--- each is dropped that can go beside those in front of it and those after it that were kept
+-- P is what is left of R beside the rules in front of it, which stay: its rules are tried from the last to the first,
+-- and each is dropped that can go beside those in front of it and those after it that were kept
 abbrev pub PrunedAfter : Conversions → List Rule → List Rule → List Rule → Type 0
 PrunedAfter convert front [] P = P ≡ []
 PrunedAfter convert front (d ∷ R) P =

@@ -1,5 +1,6 @@
 -- The laws of the book. Each is the clause of a public function with an empty body.
-use Rattle.std.specs.Prelude.{◌≡◌, ◌↔◌, ℕ, suc, ◌<◌, ◌≤◌, ◌⊎◌, true, length, Option, None, Some, List, [], ◌∷◌, ◌++◌, map}
+use Rattle.std.specs.Prelude.{◌≡◌, ◌↔◌, ℕ, suc, ◌<◌, ◌≤◌, ◌⊎◌, true, length}
+use Rattle.std.specs.Prelude.{Option, None, Some, List, [], ◌∷◌, ◌++◌, map}
 use Rattle.dx_base.specs.Members.{◌∈◌, ◌⊆◌, ◌≈◌, Each}
 use Rattle.dx_base.specs.Texts.{Text}
 use Rattle.dx_model.specs.declared.values.NullId.{NullId}
@@ -14,11 +15,15 @@ use Rattle.dx_model.specs.declared.rules.Cell.{Cell}
 use Rattle.dx_model.specs.declared.rules.Cell.TheVariants.{Var}
 use Rattle.dx_model.specs.declared.covers.CellMap.{CellMap}
 use Rattle.dx_model.specs.declared.covers.Cover.{Cover}
-use Rattle.dx_model.specs.Instances.{HoldsConstants, MapsInto, IsHomomorphism, IsCore, Moves, moved, fact_moved, fact_both, given, image, values}
+use Rattle.dx_model.specs.Instances.{HoldsConstants, MapsInto, IsHomomorphism, IsCore, Moves}
+use Rattle.dx_model.specs.Instances.{moved, fact_moved, fact_both, given, image, values}
 use Rattle.dx_model.specs.Chase.{ForcedEqual, IsForcedMap, IsKeyStep, IsClashAt, NoneReceives, after, AreSteps}
 use Rattle.dx_model.specs.Solutions.{AtomFits, IsSolution, IsUniversal, IsClosed}
-use Rattle.dx_model.specs.Rules.{cells_of, exported, Increase, fact_of_atom, IsMatch, IsRows, Satisfies, PlacesSatisfied, KeepsLiterals, AreRows, canonical}
-use Rattle.dx_model.specs.Covers.{SaysAt, HasWidths, IsCellMap, Carries, cell_maps, used_maps, has_map, before, rank, rule_at, IsPlace, SameExported, CoversFall, uncovered, folded, uncovered_part, cover_fold, least_cover}
+use Rattle.dx_model.specs.Rules.{cells_of, exported, Increase, fact_of_atom, IsMatch, IsRows}
+use Rattle.dx_model.specs.Rules.{Satisfies, PlacesSatisfied, KeepsLiterals, AreRows, canonical}
+use Rattle.dx_model.specs.Covers.{SaysAt, HasWidths, IsCellMap, Carries, cell_maps, used_maps}
+use Rattle.dx_model.specs.Covers.{has_map, before, rank, rule_at, IsPlace, SameExported, CoversFall}
+use Rattle.dx_model.specs.Covers.{uncovered, folded, uncovered_part, cover_fold, least_cover}
 use Rattle.dx_model.specs.Blocks.{IsBlock, IsClosedPart, Spares, IsNeeded, IsEquivalentPart, IsWithout}
 use Rattle.dx_model.specs.Following.{SatisfyAll, Follows, Implies, IsPruned, frozen, CanBeFrozen, frozen_text, IsClean}
 use Rattle.dx_model.specs.Fitting.{IsRule, RuleFits, AtomFitsWidths, AtomsFitWidths, AgreeInWidths, conclusions_of}
@@ -28,14 +33,15 @@ use Rattle.dx_model.specs.Values.{Tuple, Rows, Conversions, FactsAscend}
 abbrev pub ExportedExactly : Type 0
 ExportedExactly = (d : Rule) → Increase (exported d) × ((x : ℕ) → (x ∈ exported d) ↔ (Var x ∈ cells_of d.conclusion))
 
--- if r makes each match in I one in J, the canonical instance of I goes by r and a map of its nulls into each K that satisfies
--- the rules with J
+-- if r makes each match in I one in J, the canonical instance of I goes by r and a map of its nulls into each K that
+-- satisfies the rules with J
 abbrev pub CanonicalMovesInto : Type 0
 CanonicalMovesInto =
     (convert : Conversions) (R : List Rule) (I J K : List Fact) (rows : Rows) (r : Text → Text)
     → AreRows convert R I rows → Each R (KeepsLiterals r)
     → Each R (λ d. (texts : ℕ → Text) → IsMatch convert d I texts → IsMatch convert d J (λ x. r (texts x)))
-    → Each R (λ d. Satisfies convert d J K) → (g : NullId → Value) × ((f : Fact) → f ∈ canonical 0 R rows → fact_both r g f ∈ K)
+    → Each R (λ d. Satisfies convert d J K)
+    → (g : NullId → Value) × ((f : Fact) → f ∈ canonical 0 R rows → fact_both r g f ∈ K)
 
 -- the canonical instance maps into each instance that satisfies the rules
 abbrev pub CanonicalMapsInto : Type 0
@@ -45,11 +51,15 @@ CanonicalMapsInto =
 
 -- the canonical instance satisfies its rules
 abbrev pub CanonicalSatisfies : Type 0
-CanonicalSatisfies = (convert : Conversions) (R : List Rule) (I : List Fact) (rows : Rows) → AreRows convert R I rows → SatisfyAll convert R I (canonical 0 R rows)
+CanonicalSatisfies =
+    (convert : Conversions) (R : List Rule) (I : List Fact) (rows : Rows) → AreRows convert R I rows
+    → SatisfyAll convert R I (canonical 0 R rows)
 
 -- an instance that has all of one that satisfies rules satisfies them
 abbrev pub MoreSatisfies : Type 0
-MoreSatisfies = (convert : Conversions) (R : List Rule) (I A B : List Fact) → A ⊆ B → SatisfyAll convert R I A → SatisfyAll convert R I B
+MoreSatisfies =
+    (convert : Conversions) (R : List Rule) (I A B : List Fact) → A ⊆ B → SatisfyAll convert R I A
+    → SatisfyAll convert R I B
 
 -- a key step makes equal what is forced equal
 abbrev pub StepsAreForced : Type 0
@@ -154,8 +164,8 @@ CoverFoldUncovers =
     (width : ℕ → ℕ) (R : List Rule) (rows : Rows) → Each R (HasWidths width) → length rows ≡ length R
     → map (fact_moved (cover_fold R rows)) (canonical 0 R rows) ≈ uncovered_part R rows
 
--- of closed rules, if keys hold in the image of the canonical instance under its forced map: a solution is universal exactly if it
--- maps into that image
+-- of closed rules, if keys hold in the image of the canonical instance under its forced map: a solution is universal
+-- exactly if it maps into that image
 abbrev pub UniversalExactly : Type 0
 UniversalExactly =
     (convert : Conversions) (R : List Rule) (schema : List Table) (I K : List Fact) (rows : Rows) (m : List NullPair)
@@ -164,7 +174,8 @@ UniversalExactly =
     → IsSolution convert R schema I K
     → IsUniversal convert R schema I K ↔ MapsInto K (image m (canonical 0 R rows))
 
--- what is left of the uncovered part of closed rules after its forced map and an endomorphism, whose image it is, is universal, if keys hold
+-- what is left of the uncovered part of closed rules after its forced map and an endomorphism,
+-- whose image it is, is universal, if keys hold
 abbrev pub ReducedIsUniversal : Type 0
 ReducedIsUniversal =
     (convert : Conversions) (R : List Rule) (schema : List Table) (I T : List Fact) (rows : Rows)
@@ -234,8 +245,8 @@ CoreIsUniversal =
     → IsEquivalentPart (image m (uncovered cover 0 R rows)) T → IsCore T
     → IsUniversal convert R schema I T
 
--- with least covers, a core that is a reduct of the uncovered part of closed rules after its forced map is universal, if keys
--- hold
+-- with least covers, a core that is a reduct of the uncovered part of closed rules after its forced map is universal,
+-- if keys hold
 abbrev pub LeastCoreIsUniversal : Type 0
 LeastCoreIsUniversal =
     (convert : Conversions) (R : List Rule) (schema : List Table) (I T : List Fact) (rows : Rows) (m : List NullPair)
@@ -256,9 +267,11 @@ FollowsByFrozen =
     (convert : Conversions) (freeze : ℕ → Text) (thaw : Text → Option ℕ) (R : List Rule) (d : Rule) (rows : Rows)
     → ((x : ℕ) → Var x ∈ cells_of (d.premise ++ d.conclusion) → thaw (freeze x) ≡ Some x)
     → CanBeFrozen thaw d → Each R (CanBeFrozen thaw) → AreRows convert R (frozen freeze d) rows
-    → Follows convert R d ↔ ((values : ℕ → Value) × Each d.conclusion (λ a. fact_of_atom freeze values a ∈ canonical 0 R rows))
+    → Follows convert R d ↔ ((values : ℕ → Value)
+    × Each d.conclusion (λ a. fact_of_atom freeze values a ∈ canonical 0 R rows))
 
--- the same with a prefix and digits, for rules without derived variables and without literals that begin with the prefix
+-- the same with a prefix and digits, for rules without derived variables and without
+-- literals that begin with the prefix
 abbrev pub FollowsByPrefix : Type 0
 FollowsByPrefix =
     (convert : Conversions) (prefix : Text) (R : List Rule) (d : Rule) (rows : Rows)
@@ -270,7 +283,8 @@ FollowsByPrefix =
 -- for rules that fit two schemas, it is enough to ask sources of constants and targets of these schemas
 abbrev pub FollowsInSchemas : Type 0
 FollowsInSchemas =
-    (convert : Conversions) (source target : List Table) (R : List Rule) (d : Rule) → Each (d ∷ R) (RuleFits source target)
+    (convert : Conversions) (source target : List Table) (R : List Rule) (d : Rule)
+    → Each (d ∷ R) (RuleFits source target)
     → ((I K : List Fact) → IsInstance source I → HoldsConstants I → IsInstance target K
     → SatisfyAll convert R I K → Satisfies convert d I K)
     → Follows convert R d
@@ -322,7 +336,9 @@ RowsOfAll =
     → AreRows convert R I rows → AreRows convert R I others → (rows ≡ others) × (length rows ≡ length R)
 
 abbrev pub RowsOfAllExist : Type 0
-RowsOfAllExist = (convert : Conversions) (R : List Rule) (I : List Fact) → Each R IsRule → (rows : Rows) × AreRows convert R I rows
+RowsOfAllExist =
+    (convert : Conversions) (R : List Rule) (I : List Fact) → Each R IsRule
+    → (rows : Rows) × AreRows convert R I rows
 
 -- the rows of rules depend on the members of the instance alone
 abbrev pub RowsOfAllByMembers : Type 0
@@ -381,7 +397,8 @@ RulesHaveWidths = (R : List Rule) → AgreeInWidths (conclusions_of R) → (widt
 abbrev pub CanonicalIsUniversal : Type 0
 CanonicalIsUniversal =
     (convert : Conversions) (R : List Rule) (schema : List Table) (I T : List Fact) (rows : Rows)
-    → AreRows convert R I rows → Each R (IsClosed schema) → canonical 0 R rows ⊆ T → T ⊆ canonical 0 R rows → KeysHold schema T
+    → AreRows convert R I rows → Each R (IsClosed schema) → canonical 0 R rows ⊆ T
+    → T ⊆ canonical 0 R rows → KeysHold schema T
     → IsUniversal convert R schema I T
 
 -- ---- the members of an instance count
@@ -389,7 +406,8 @@ CanonicalIsUniversal =
 -- a forced map is that of each instance with the same members
 abbrev pub ForcedMapByMembers : Type 0
 ForcedMapByMembers =
-    (schema : List Table) (A B : List Fact) (m : List NullPair) → A ≈ B → IsForcedMap schema A m → IsForcedMap schema B m
+    (schema : List Table) (A B : List Fact) (m : List NullPair) → A ≈ B → IsForcedMap schema A m
+    → IsForcedMap schema B m
 
 -- what no instance receives in which keys hold, none receives that has more
 abbrev pub NoneReceivesByMembers : Type 0
@@ -441,7 +459,8 @@ ForcedImageStays =
 
 -- the uncovered part is a part of the canonical instance
 abbrev pub UncoveredIsPart : Type 0
-UncoveredIsPart = (cover : ℕ → ℕ → Option Cover) (R : List Rule) (rows : Rows) → uncovered cover 0 R rows ⊆ canonical 0 R rows
+UncoveredIsPart =
+    (cover : ℕ → ℕ → Option Cover) (R : List Rule) (rows : Rows) → uncovered cover 0 R rows ⊆ canonical 0 R rows
 
 -- homomorphisms follow one another
 abbrev pub MapsJoin : Type 0
@@ -452,7 +471,8 @@ abbrev pub SaidByMoves : Type 0
 SaidByMoves =
     (texts : ℕ → Text) (atoms : List Atom) (K : List Fact)
     → ((values : ℕ → Value) × Each atoms (λ a. fact_of_atom texts values a ∈ K))
-    ↔ ((g : NullId → Value) × Moves g (map (fact_of_atom texts (λ v. Null (record { rule = 0; var = v; row = 0 }))) atoms) K)
+    ↔ ((g : NullId → Value) × Moves g
+    (map (fact_of_atom texts (λ v. Null (record { rule = 0; var = v; row = 0 }))) atoms) K)
 
 -- the frozen premise of a rule that fits is an instance of the source schema, and holds constants alone
 abbrev pub FrozenFits : Type 0

@@ -45,6 +45,7 @@ nothing_written = record { files = Some []; said = Some [] }
 abbrev pub answered_then : List Found → List ℕ → ℕ → Result (Unit {0}) FetchFault → List ℕ → List Found
 answered_then before name limit (Ok done) into = before ++ (record { name = name; sight = bytes into }) ∷ []
 answered_then before name limit (Err faults.Absent) into = before ++ (record { name = name; sight = nothing }) ∷ []
-answered_then before name limit (Err faults.Long) into = before ++ (record { name = name; sight = more_than limit }) ∷ []
+answered_then before name limit (Err faults.Long) into =
+    before ++ (record { name = name; sight = more_than limit }) ∷ []
 answered_then before name limit (Err faults.Failed) into = before
 answered_then before name limit (Err faults.Memory) into = before

@@ -27,27 +27,37 @@ abbrev pub TextOrFault : Type 0
 TextOrFault = (text : List ℕ) → ((q : List PartText) × IsQueryText text q) ⊎ ((e : TextFault) × IsQueryTextFault text e)
 
 abbrev pub NeverQueryAndFault : Type 0
-NeverQueryAndFault = (text : List ℕ) (q : List PartText) (e : TextFault) → IsQueryText text q → ¬ (IsQueryTextFault text e)
+NeverQueryAndFault =
+    (text : List ℕ) (q : List PartText) (e : TextFault) → IsQueryText text q → ¬ (IsQueryTextFault text e)
 
 -- a part has no more cells than the text has bytes
 abbrev pub TextsHaveFewCells : Type 0
-TextsHaveFewCells = (text : List ℕ) (parts : List PartText) → IsQueryText text parts → Each parts (λ p. length p.answer + length (text_cells p.atoms) ≤ length text)
+TextsHaveFewCells =
+    (text : List ℕ) (parts : List PartText) → IsQueryText text parts
+    → Each parts (λ p. length p.answer + length (text_cells p.atoms) ≤ length text)
 
 -- ---- queries over a target
 
 -- a text says at most one query over a target, and it has at most one first fault
 abbrev pub OneQuery : Type 0
-OneQuery = (target : Forest) (text : List ℕ) (p q : Query) → IsQueryOver target text p → IsQueryOver target text q → p ≡ q
+OneQuery =
+    (target : Forest) (text : List ℕ) (p q : Query) → IsQueryOver target text p → IsQueryOver target text q → p ≡ q
 
 abbrev pub OneQueryFault : Type 0
-OneQueryFault = (target : Forest) (text : List ℕ) (e f : TextFault) → IsFaultOver target text e → IsFaultOver target text f → e ≡ f
+OneQueryFault =
+    (target : Forest) (text : List ℕ) (e f : TextFault) → IsFaultOver target text e
+    → IsFaultOver target text f → e ≡ f
 
 -- it has one of the two, and never both
 abbrev pub QueryOrFault : Type 0
-QueryOrFault = (target : Forest) (text : List ℕ) → ((q : Query) × IsQueryOver target text q) ⊎ ((e : TextFault) × IsFaultOver target text e)
+QueryOrFault =
+    (target : Forest) (text : List ℕ)
+    → ((q : Query) × IsQueryOver target text q) ⊎ ((e : TextFault) × IsFaultOver target text e)
 
 abbrev pub NeverSaidAndFaulty : Type 0
-NeverSaidAndFaulty = (target : Forest) (text : List ℕ) (q : Query) (e : TextFault) → IsQueryOver target text q → ¬ (IsFaultOver target text e)
+NeverSaidAndFaulty =
+    (target : Forest) (text : List ℕ) (q : Query) (e : TextFault) → IsQueryOver target text q
+    → ¬ (IsFaultOver target text e)
 
 -- its fault has a place and a kind: none is one of depth, and want of memory is none
 abbrev pub FaultsArePlaced : Type 0
@@ -55,8 +65,12 @@ FaultsArePlaced = (target : Forest) (text : List ℕ) (e : TextFault) → IsFaul
 
 -- a part without a fault, of not too many atoms, fits the schema
 abbrev pub ReadPartsFit : Type 0
-ReadPartsFit = (f : Forest) (width : ℕ) (p : PartText) → length p.atoms ≤ QUERY_ATOMS → part_fault f width p ≡ None → FitsPart (schema_widths f) width (part_of_text f p)
+ReadPartsFit =
+    (f : Forest) (width : ℕ) (p : PartText) → length p.atoms ≤ QUERY_ATOMS → part_fault f width p ≡ None
+    → FitsPart (schema_widths f) width (part_of_text f p)
 
 -- so does a query that a text says, if none of its parts has more
 abbrev pub ReadQueriesFit : Type 0
-ReadQueriesFit = (target : Forest) (text : List ℕ) (q : Query) → IsQueryOver target text q → HasFewAtoms q → FitsQuery (schema_widths target) q
+ReadQueriesFit =
+    (target : Forest) (text : List ℕ) (q : Query) → IsQueryOver target text q → HasFewAtoms q
+    → FitsQuery (schema_widths target) q

@@ -41,7 +41,8 @@ answer_fault variables answer = first_of (map (answer_cell_fault variables) answ
 
 -- of a part its atoms are looked at, then its width, then the cells of its answer
 abbrev pub part_fault : Forest → ℕ → PartText → Option TextFault
-part_fault f width p = first_of (atoms_fault f p.atoms ∷ width_fault width p ∷ answer_fault (part_variables p) p.answer ∷ [])
+part_fault f width p =
+    first_of (atoms_fault f p.atoms ∷ width_fault width p ∷ answer_fault (part_variables p) p.answer ∷ [])
 
 -- the first fault of a query, part by part
 abbrev pub query_fault : Forest → List PartText → Option TextFault
@@ -50,7 +51,11 @@ query_fault f parts = first_of (map (part_fault f (width_of parts)) parts)
 -- ---- values
 
 abbrev pub part_of_text : Forest → PartText → Part
-part_of_text f p = record { answer = map (cell_of (part_variables p) []) p.answer; atoms = atoms_of_texts f (part_variables p) [] p.atoms }
+part_of_text f p =
+    record {
+      answer = map (cell_of (part_variables p) []) p.answer;
+      atoms = atoms_of_texts f (part_variables p) [] p.atoms;
+    }
 
 -- the query, by the numbers of what it names
 abbrev pub query_of : Forest → List PartText → Query

@@ -13,11 +13,15 @@ use Rattle.dx_query_text.specs.Texts.{IsQueryText, IsQueryTextFault, query_of_te
 
 -- the text says parts without a fault, which are this query by numbers
 abbrev pub IsQueryOver : Forest → List ℕ → Query → Type 0
-IsQueryOver target text q = (parts : List PartText) × IsQueryText text parts × (query_fault target parts ≡ None) × (q ≡ query_of target parts)
+IsQueryOver target text q =
+    (parts : List PartText) × IsQueryText text parts × (query_fault target parts ≡ None)
+    × (q ≡ query_of target parts)
 
 -- the text's first fault as a text, or if it says parts, the first word in them that is at fault
 abbrev pub IsFaultOver : Forest → List ℕ → TextFault → Type 0
-IsFaultOver target text e = IsQueryTextFault text e ⊎ ((parts : List PartText) × IsQueryText text parts × (query_fault target parts ≡ Some e))
+IsFaultOver target text e =
+    IsQueryTextFault text e ⊎ ((parts : List PartText) × IsQueryText text parts
+    × (query_fault target parts ≡ Some e))
 
 -- a fault that is told is the first, unless memory ran out
 abbrev pub IsQueryFaultOrMemory : Forest → List ℕ → TextFault → Type 0

@@ -26,7 +26,8 @@ IsUnexpectedInQuery text place = IsUnexpectedAt query (λ (x : Lexeme). x.place)
 
 -- All tokens can stand, and the text stops at a token fault or ends too early.
 abbrev pub QueryStops : List ℕ → ℕ → TextKind → Type 0
-QueryStops text place kind = IsStoppedAt query (judged_tokens text) (fault_in (scan_of text).stop) (length text) Ended place kind
+QueryStops text place kind =
+    IsStoppedAt query (judged_tokens text) (fault_in (scan_of text).stop) (length text) Ended place kind
 
 -- The first fault of a text; no token is ever too deep.
 abbrev pub IsQueryTextFault : List ℕ → TextFault → Type 0
@@ -35,7 +36,8 @@ IsQueryTextFault text e = IsFaultBy (IsUnexpectedInQuery text) (λ place. ⊥) (
 -- ---- the answer, as it is computed
 
 -- what is answered of tokens, if the text has so many bytes and its tokens stop so
-abbrev pub query_outcome : ℕ → Option (ℕ × TextKind) → List Lexeme → Result (List PartText) ℕ → Result (List PartText) TextFault
+abbrev pub query_outcome : ℕ → Option (ℕ × TextKind) → List Lexeme → Result (List PartText) ℕ
+    → Result (List PartText) TextFault
 query_outcome end stop xs (Err zero) = Err (stop_fault end stop)
 query_outcome end stop xs (Err (suc left)) = Err (At (token_place xs (length xs - suc left)) Expected)
 query_outcome end (Some p) xs (Ok parts) = Err (At p.0 p.1)

@@ -23,49 +23,64 @@ use Rattle.dx_rule_laws.specs.ReadBack.{IsRuleText, IsReadAs, AreReadBehind, IsP
 -- between two schemas with offered conversions, the text of each rule that can be printed is read as this rule
 abbrev pub PrintedRulesAreRead : Type 0
 PrintedRulesAreRead =
-    (source target : Forest) (list : List Conversion) (d : Rule) → AreTables (tables_of source) → AreTables (tables_of target) → IsOffer list → IsPrintableRule source target list d
+    (source target : Forest) (list : List Conversion) (d : Rule) → AreTables (tables_of source)
+    → AreTables (tables_of target) → IsOffer list → IsPrintableRule source target list d
     → IsReadAs source target list d (rule_text source target list d)
 
 -- so no two of them have one text
 abbrev pub PrintedRulesDiffer : Type 0
 PrintedRulesDiffer =
-    (source target : Forest) (list : List Conversion) (d e : Rule) → AreTables (tables_of source) → AreTables (tables_of target) → IsOffer list → IsPrintableRule source target list d → IsPrintableRule source target list e
+    (source target : Forest) (list : List Conversion) (d e : Rule) → AreTables (tables_of source)
+    → AreTables (tables_of target) → IsOffer list → IsPrintableRule source target list d
+    → IsPrintableRule source target list e
     → rule_text source target list d ≡ rule_text source target list e → d ≡ e
 
--- after a mapping text whose sides are schemas, the lines of rules that fit them and can be written are read as rules of the mapping: these
+-- after a mapping text whose sides are schemas, the lines of rules that fit them and
+-- can be written are read as rules of the mapping: these
 abbrev pub PrintedLinesAreRead : Type 0
 PrintedLinesAreRead =
-    (text : Text) (m : MappingText) (list : List Conversion) (ds : List Rule) → IsMappingText text m → AreTables (tables_of m.source) → AreTables (tables_of m.target) → IsOffer list
-    → Each ds (RuleFits (model_tables m.source) (model_tables m.target)) → Each ds (AreOffered list) → Each ds (IsWritable list)
+    (text : Text) (m : MappingText) (list : List Conversion) (ds : List Rule) → IsMappingText text m
+    → AreTables (tables_of m.source) → AreTables (tables_of m.target) → IsOffer list
+    → Each ds (RuleFits (model_tables m.source) (model_tables m.target)) → Each ds (AreOffered list)
+    → Each ds (IsWritable list)
     → AreReadBehind m list ds (text ++ (codes "\n" ++ rules_text m.source m.target list ds))
 
 -- of a rule that a mapping text says without a fault each conversion and each literal can be written
 abbrev pub SaidRulesAreWritable : Type 0
 SaidRulesAreWritable =
-    (text : Text) (m : MappingText) (list : List Conversion) (r : RuleText) → IsMappingText text m → IsOffer list → r ∈ m.rules → rule_fault m.source m.target list r ≡ None
+    (text : Text) (m : MappingText) (list : List Conversion) (r : RuleText) → IsMappingText text m
+    → IsOffer list → r ∈ m.rules → rule_fault m.source m.target list r ≡ None
     → IsWritable list (rule_of_text m.source m.target list r)
 
 -- and so it is of each rule that the lines of a mapping text stand for
 abbrev pub LineRulesAreWritable : Type 0
 LineRulesAreWritable =
-    (text : Text) (m : MappingText) (list : List Conversion) → IsMappingText text m → IsOffer list → lines_fault m.source m.target list m.lines ≡ None
-    → Each (kept_rules (lines_of m.source m.target list m.lines) (model_tables m.source) (model_tables m.target)) (IsWritable list)
+    (text : Text) (m : MappingText) (list : List Conversion) → IsMappingText text m → IsOffer list
+    → lines_fault m.source m.target list m.lines ≡ None
+    → Each (kept_rules (lines_of m.source m.target list m.lines) (model_tables m.source)
+    (model_tables m.target)) (IsWritable list)
 
 -- and of the closing of a rule, if it is so of the rule
 abbrev pub ClosingsAreWritable : Type 0
-ClosingsAreWritable = (schema : List Table) (list : List Conversion) (d e : Rule) → IsClosingOf schema d e → IsWritable list d → IsWritable list e
+ClosingsAreWritable =
+    (schema : List Table) (list : List Conversion) (d e : Rule) → IsClosingOf schema d e
+    → IsWritable list d → IsWritable list e
 
--- so whatever rules a mapping text says without a fault: printed in lines after the text, they are read as the same rules
+-- so whatever rules a mapping text says without a fault: printed in lines after the text,
+-- they are read as the same rules
 abbrev pub SaidRulesAreReadAgain : Type 0
 SaidRulesAreReadAgain =
-    (text : Text) (m : MappingText) (list : List Conversion) → IsMappingText text m → AreTables (tables_of m.source) → AreTables (tables_of m.target) → IsOffer list
+    (text : Text) (m : MappingText) (list : List Conversion) → IsMappingText text m
+    → AreTables (tables_of m.source) → AreTables (tables_of m.target) → IsOffer list
     → Each m.rules RuleHasFewCells → rules_fault m.source m.target list m.rules ≡ None
-    → AreReadBehind m list (rules_of_texts m.source m.target list m.rules) (text ++ (codes "\n" ++ rules_text m.source m.target list (rules_of_texts m.source m.target list m.rules)))
+    → AreReadBehind m list (rules_of_texts m.source m.target list m.rules)
+    (text ++ (codes "\n" ++ rules_text m.source m.target list (rules_of_texts m.source m.target list m.rules)))
 
 -- and those rules can be printed
 abbrev pub SaidRulesArePrintable : Type 0
 SaidRulesArePrintable =
-    (text : Text) (m : MappingText) (list : List Conversion) → IsMappingText text m → AreTables (tables_of m.source) → AreTables (tables_of m.target) → IsOffer list
+    (text : Text) (m : MappingText) (list : List Conversion) → IsMappingText text m
+    → AreTables (tables_of m.source) → AreTables (tables_of m.target) → IsOffer list
     → Each m.rules RuleHasFewCells → rules_fault m.source m.target list m.rules ≡ None
     → Each (rules_of_texts m.source m.target list m.rules) (IsPrintableRule m.source m.target list)
 
@@ -74,16 +89,24 @@ abbrev pub OneRuleText : Type 0
 OneRuleText = (text : Text) (r s : RuleText) → IsRuleText text r → IsRuleText text s → r ≡ s
 
 abbrev pub OneRule : Type 0
-OneRule = (source target : Forest) (list : List Conversion) (d e : Rule) (text : Text) → IsReadAs source target list d text → IsReadAs source target list e text → d ≡ e
+OneRule =
+    (source target : Forest) (list : List Conversion) (d e : Rule) (text : Text)
+    → IsReadAs source target list d text → IsReadAs source target list e text → d ≡ e
 
 -- after a mapping it is read as one list of rules at most
 abbrev pub OneListBehind : Type 0
-OneListBehind = (m : MappingText) (list : List Conversion) (ds es : List Rule) (text : Text) → AreReadBehind m list ds text → AreReadBehind m list es text → ds ≡ es
+OneListBehind =
+    (m : MappingText) (list : List Conversion) (ds es : List Rule) (text : Text)
+    → AreReadBehind m list ds text → AreReadBehind m list es text → ds ≡ es
 
 -- a rule that a text is read as has listed conversions alone
 abbrev pub ReadIsOffered : Type 0
-ReadIsOffered = (source target : Forest) (list : List Conversion) (d : Rule) (text : Text) → IsReadAs source target list d text → AreOffered list d
+ReadIsOffered =
+    (source target : Forest) (list : List Conversion) (d : Rule) (text : Text)
+    → IsReadAs source target list d text → AreOffered list d
 
 -- and so has each that is read after a mapping
 abbrev pub ReadBehindIsOffered : Type 0
-ReadBehindIsOffered = (m : MappingText) (list : List Conversion) (ds : List Rule) (text : Text) → AreReadBehind m list ds text → Each ds (AreOffered list)
+ReadBehindIsOffered =
+    (m : MappingText) (list : List Conversion) (ds : List Rule) (text : Text)
+    → AreReadBehind m list ds text → Each ds (AreOffered list)

@@ -65,8 +65,8 @@ pub record IsPrintableRule (source target : Forest) (list : List Conversion) (d 
 abbrev pub with_more_rules : MappingText → List RuleText → MappingText
 with_more_rules m rules = record m { rules = m.rules ++ rules }
 
--- the text is read as a mapping with these rules after its own: it says the mapping and rules without a fault, which are
--- these by the numbers of what they name
+-- the text is read as a mapping with these rules after its own: it says the mapping and rules without a fault, which
+-- are these by the numbers of what they name
 pub record AreReadBehind (m : MappingText) (list : List Conversion) (ds : List Rule) (text : Text) : Type 0 where
   pub said : List RuleText
   pub is_text : IsMappingText text (with_more_rules m said)

@@ -27,4 +27,6 @@ pub record IsOneLineRule (source target : Forest) (list : List Conversion) (r : 
 
 -- the text of such a rule has no line feed
 abbrev pub RulesAreOneLine : Type 0
-RulesAreOneLine = (source target : Forest) (list : List Conversion) (r : Rule) → IsOneLineRule source target list r → IsOneLine (rule_text source target list r)
+RulesAreOneLine =
+    (source target : Forest) (list : List Conversion) (r : Rule) → IsOneLineRule source target list r
+    → IsOneLine (rule_text source target list r)

@@ -38,9 +38,12 @@ atom_text name a = name a.table ++ (codes "(" ++ (separated (map cell_text a.cel
 abbrev pub atoms_text : (ℕ → Text) → List Atom → Text
 atoms_text name atoms = separated (map (atom_text name) atoms)
 
--- a derived variable with its number, with a name for each conversion: the variable, and the conversion of its arguments
+-- a derived variable with its number, with a name for each conversion: the variable,
+-- and the conversion of its arguments
 abbrev pub derived_text : (ℕ → Text) → ℕ → Derived → Text
-derived_text name n d = variable_text n ++ (codes " = " ++ (name d.code ++ (codes "(" ++ (separated (map variable_text d.args) ++ codes ")"))))
+derived_text name n d =
+    variable_text n ++ (codes " = "
+    ++ (name d.code ++ (codes "(" ++ (separated (map variable_text d.args) ++ codes ")"))))
 
 -- derived variables, of which the first has number n
 abbrev pub derived_texts : (ℕ → Text) → ℕ → List Derived → List Text
@@ -56,7 +59,8 @@ where_text name n (d ∷ ds) = codes " where " ++ separated (derived_texts name 
 abbrev pub table_name : Forest → ℕ → Text
 table_name schema t = (schema_table schema t).name
 
--- a rule in one line: its premise, its derived variables, which are numbered on from the premise's variables, and its conclusion
+-- a rule in one line: its premise, its derived variables, which are numbered on from the premise's variables,
+-- and its conclusion
 abbrev pub rule_text : Forest → Forest → List Conversion → Rule → Text
 rule_text source target list r =
     codes "rule "

@@ -7,7 +7,8 @@ use Rattle.dx_logical.specs.declared.relation.Relation.{Relation}
 use Rattle.dx_lines.specs.declared.line.Line.{Line}
 use Rattle.dx_lines.specs.Reading.{IsReached}
 
--- The target column of each line can be read at the occurrences of the target table's unfolding, whose variables are fewer than it says;
+-- The target column of each line can be read at the occurrences of the target table's unfolding,
+-- whose variables are fewer than it says;
 -- and both unfoldings have at most as many variables as an unfolding can have.
 pub record CanBeDrafted (lines : List Line) (S T : Relation) : Type 0 where
   pub reached : Each lines (IsReached T.occurrences)

@@ -35,16 +35,23 @@ abbrev pub key_code : Coded KeyDecl
 key_code = code_by (List (List ℕ)) texts_code (λ k. k.columns) (λ p. record { columns = p }) (λ _. refl)
 
 abbrev pub dep_code : Coded DepDecl
-dep_code = code_by (List (List ℕ) × List (List ℕ)) (coded× texts_code texts_code) (λ d. (d.columns, d.decides)) (λ p. record { columns = p.0; decides = p.1 }) (λ _. refl)
+dep_code =
+    code_by (List (List ℕ) × List (List ℕ)) (coded× texts_code texts_code) (λ d. (d.columns, d.decides))
+    (λ p. record { columns = p.0; decides = p.1 }) (λ _. refl)
 
 abbrev pub ref_code : Coded RefDecl
-ref_code = code_by ((List (List ℕ) × List ℕ) × (List (List ℕ) × Bool)) (coded× (coded× texts_code (coded_list coded_ℕ)) (coded× texts_code coded_bool))
-    (λ r. ((r.columns, r.set), (r.referred, r.optional))) (λ p. record { columns = p.0.0; set = p.0.1; referred = p.1.0; optional = p.1.1 }) (λ _. refl)
+ref_code =
+    code_by ((List (List ℕ) × List ℕ) × (List (List ℕ) × Bool))
+    (coded× (coded× texts_code (coded_list coded_ℕ)) (coded× texts_code coded_bool))
+    (λ r. ((r.columns, r.set), (r.referred, r.optional)))
+    (λ p. record { columns = p.0.0; set = p.0.1; referred = p.1.0; optional = p.1.1 }) (λ _. refl)
 
 abbrev pub label_code : Coded Label
 label_code = code_by ((List ℕ × List (List ℕ)) × (List KeyDecl × (List DepDecl × List RefDecl)))
-    (coded× (coded× (coded_list coded_ℕ) texts_code) (coded× (coded_list key_code) (coded× (coded_list dep_code) (coded_list ref_code))))
-    (λ l. ((l.name, l.columns), (l.keys, (l.deps, l.refs)))) (λ p. record { name = p.0.0; columns = p.0.1; keys = p.1.0; deps = p.1.1.0; refs = p.1.1.1 }) (λ _. refl)
+    (coded× (coded× (coded_list coded_ℕ) texts_code)
+    (coded× (coded_list key_code) (coded× (coded_list dep_code) (coded_list ref_code))))
+    (λ l. ((l.name, l.columns), (l.keys, (l.deps, l.refs))))
+    (λ p. record { name = p.0.0; columns = p.0.1; keys = p.1.0; deps = p.1.1.0; refs = p.1.1.1 }) (λ _. refl)
 
 -- a forest as a list: each set, then its inner sets, then the sets after it; `None` where a level ends
 abbrev pub labels_in_order : Forest → List (Option Label)
@@ -66,7 +73,9 @@ stacked (Some l ∷ rest) = join_forests l (stacked rest)
 stacked-listed : (f : Forest) (rest : List (Option Label)) → stacked (labels_in_order f ++ rest) ≡ f ∷ stacked rest
 stacked-listed none rest = refl
 stacked-listed (set l i r) rest =
-    let e : stacked ((labels_in_order i ++ labels_in_order r) ++ rest) ≡ i ∷ r ∷ stacked rest = ap stacked (append_assoc (labels_in_order i) (labels_in_order r) rest) ∙ stacked-listed i (labels_in_order r ++ rest) ∙ ap (λ fs. i ∷ fs) (stacked-listed r rest) in
+    let e : stacked ((labels_in_order i ++ labels_in_order r) ++ rest) ≡ i ∷ r
+    ∷ stacked rest = ap stacked (append_assoc (labels_in_order i) (labels_in_order r) rest) ∙
+    stacked-listed i (labels_in_order r ++ rest) ∙ ap (λ fs. i ∷ fs) (stacked-listed r rest) in
     ap (join_forests l) e
 
 -- the first of some forests, and no sets if there is none
@@ -76,11 +85,15 @@ first_of_forests (f ∷ fs) = f
 
 -- a forest is what its list gives
 pub forest_back : (f : Forest) → first_of_forests (stacked (labels_in_order f)) ≡ f
-forest_back f = ap (λ xs. first_of_forests (stacked xs)) (sym (append-nil (labels_in_order f))) ∙ ap first_of_forests (stacked-listed f [])
+forest_back f =
+    ap (λ xs. first_of_forests (stacked xs)) (sym (append-nil (labels_in_order f))) ∙ ap
+    first_of_forests (stacked-listed f [])
 
 -- a forest, told by its list
 abbrev pub forest_code : Coded Forest
-forest_code = code_by (List (Option Label)) (coded_list (coded_option label_code)) labels_in_order (λ xs. first_of_forests (stacked xs)) forest_back
+forest_code =
+    code_by (List (Option Label)) (coded_list (coded_option label_code)) labels_in_order
+    (λ xs. first_of_forests (stacked xs)) forest_back
 
 -- ---- views
 
@@ -91,7 +104,9 @@ pub record Tree : Type 0 where
 
 -- a set with its inner sets, told by the two
 abbrev pub tree_code : Coded Tree
-tree_code = code_by (Label × Forest) (coded× label_code forest_code) (λ t. (t.label, t.inner)) (λ p. record { label = p.0; inner = p.1 }) (λ _. refl)
+tree_code =
+    code_by (Label × Forest) (coded× label_code forest_code) (λ t. (t.label, t.inner))
+    (λ p. record { label = p.0; inner = p.1 }) (λ _. refl)
 
 -- the sets in order, as those of one level
 abbrev pub forest_of : List Tree → Forest

@@ -23,7 +23,8 @@ pub record IsOverview (sets : List Node) (names : List Text) (columns : List (Li
   pub few : length names ≤ TABLES
   pub lists : IsColumnLists sets columns
 
--- the tables of these sets can be made: these are their names, few enough, no table is too wide, and their numbers are small
+-- the tables of these sets can be made: these are their names, few enough, no table is too wide,
+-- and their numbers are small
 pub record IsReadyForTables (sets : List Node) (names : List Text) : Type 0 where
   pub named : names ≡ names_of (map node_view sets)
   pub few : length names ≤ TABLES

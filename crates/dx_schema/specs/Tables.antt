@@ -1,5 +1,6 @@
 -- The tables of a schema.
-use Rattle.std.specs.Prelude.{◌≡◌, ℕ, suc, ◌+◌, ◌<◌, ◌≤◌, List, [], ◌∷◌, ◌++◌, Option, Some, None, length, map, cond, not, nat_eq, codes, slice_index_or}
+use Rattle.std.specs.Prelude.{◌≡◌, ℕ, suc, ◌+◌, ◌<◌, ◌≤◌, List, [], ◌∷◌, ◌++◌, Option, Some}
+use Rattle.std.specs.Prelude.{None, length, map, cond, not, nat_eq, codes, slice_index_or}
 use Rattle.std.specs.List.{filter}
 use Rattle.std.specs.Cmp.Lexicographic.{pointwise}
 use Rattle.dx_base.specs.declared.limits.TheConstants.{TABLES, COLUMNS}
@@ -87,7 +88,8 @@ key_named s names = record { columns = numbers_of_names names (columns_of s) }
 -- the keys of a set's table: `#id` if it has that column, then each declared key, of an inner set with `#up` in front
 abbrev pub keys_in : NumberedSet → List Key
 keys_in s =
-    map (key_named s) (where_has_inner s.inner (codes "#id" ∷ []) ++ map (λ (k : KeyDecl). where_inner s.parent (codes "#up") ++ k.columns) s.label.keys)
+    map (key_named s) (where_has_inner s.inner (codes "#id" ∷ [])
+    ++ map (λ (k : KeyDecl). where_inner s.parent (codes "#up") ++ k.columns) s.label.keys)
 
 -- a dependency by the names of its columns, of an inner set with `#up` in front of those on the left
 abbrev pub dep_named : NumberedSet → DepDecl → Dep
@@ -113,13 +115,21 @@ columns_at sets t = slice_index_or (map columns_of sets) t []
 abbrev pub link_of : List NumberedSet → NumberedSet → RefDecl → Link
 link_of sets s r =
     let t = number_of_name r.set (names_of sets) in
-    record { from = numbers_of_names r.columns (columns_of s); table = t; to = numbers_of_names r.referred (columns_at sets t) }
+    record {
+      from = numbers_of_names r.columns (columns_of s);
+      table = t;
+      to = numbers_of_names r.referred (columns_at sets t);
+    }
 
 -- the link of an inner set to the set that it is in
 abbrev pub link_up : List NumberedSet → NumberedSet → Option ℕ → List Link
 link_up sets s None = []
 link_up sets s (Some p) =
-    record { from = numbers_of_names (codes "#up" ∷ []) (columns_of s); table = p; to = numbers_of_names (codes "#id" ∷ []) (columns_at sets p) } ∷ []
+    record {
+      from = numbers_of_names (codes "#up" ∷ []) (columns_of s);
+      table = p;
+      to = numbers_of_names (codes "#id" ∷ []) (columns_at sets p);
+    } ∷ []
 
 -- the refs that aren't optional, in order
 abbrev pub firm_refs : List RefDecl → List RefDecl
@@ -141,7 +151,17 @@ optional_in sets s = map (link_of sets s) (optional_refs s.label.refs)
 
 -- a set as a table, among the sets of its schema
 abbrev pub table_in : List NumberedSet → NumberedSet → TableOf
-table_in sets s = record { name = s.label.name; columns = columns_of s; keys = keys_in s; deps = deps_in s; links = links_in sets s; optional = optional_in sets s; parent = s.parent; inner = level_numbers (suc s.number) s.inner }
+table_in sets s =
+    record {
+      name = s.label.name;
+      columns = columns_of s;
+      keys = keys_in s;
+      deps = deps_in s;
+      links = links_in sets s;
+      optional = optional_in sets s;
+      parent = s.parent;
+      inner = level_numbers (suc s.number) s.inner;
+    }
 
 -- the tables of a schema: its sets in preorder
 abbrev pub tables_of : Forest → List TableOf
@@ -149,7 +169,8 @@ tables_of f = map (table_in (sets_of f)) (sets_of f)
 
 -- what stands at a number that no table has: a table without a column
 abbrev pub no_table : TableOf
-no_table = record { name = []; columns = []; keys = []; deps = []; links = []; optional = []; parent = None; inner = [] }
+no_table =
+    record { name = []; columns = []; keys = []; deps = []; links = []; optional = []; parent = None; inner = [] }
 
 -- the table with a number
 abbrev pub schema_table : Forest → ℕ → TableOf
@@ -169,7 +190,13 @@ determinations_of t = key_determinations t ++ map dep_of t.deps
 
 -- a table as numbers: its width, its determinations, its links and its optional links
 abbrev pub as_numbers : TableOf → Numbers
-as_numbers t = record { width = length t.columns; determinations = determinations_of t; links = t.links; optional = t.optional }
+as_numbers t =
+    record {
+      width = length t.columns;
+      determinations = determinations_of t;
+      links = t.links;
+      optional = t.optional;
+    }
 
 -- the widths of a schema's tables
 abbrev pub schema_widths : Forest → List ℕ

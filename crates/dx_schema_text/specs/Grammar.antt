@@ -86,7 +86,8 @@ key = keyword (codes "key") ▸ mark (codes "(") ▸ words ▸ mark (codes ")") 
 -- "dep" "(" words ")" "->" "(" words ")" ";"
 unfoldable pub dep : Form Lexeme
 dep =
-    keyword (codes "dep") ▸ mark (codes "(") ▸ words ▸ mark (codes ")") ▸ mark (codes "->") ▸ mark (codes "(") ▸ words ▸ mark (codes ")") ▸ mark (codes ";")
+    keyword (codes "dep") ▸ mark (codes "(") ▸ words ▸ mark (codes ")") ▸ mark (codes "->")
+    ▸ mark (codes "(") ▸ words ▸ mark (codes ")") ▸ mark (codes ";")
 
 -- key, and if dependencies may stand, key | dep
 unfoldable pub determination : Bool → Form Lexeme
@@ -101,7 +102,8 @@ optional_word true = optional (keyword (codes "optional"))
 -- "ref" "(" words ")" "->" word "(" words ")" optional_word ";"
 unfoldable pub ref : Bool → Form Lexeme
 ref optionals =
-    keyword (codes "ref") ▸ mark (codes "(") ▸ words ▸ mark (codes ")") ▸ mark (codes "->") ▸ word ▸ mark (codes "(") ▸ words ▸ mark (codes ")") ▸ optional_word optionals ▸ mark (codes ";")
+    keyword (codes "ref") ▸ mark (codes "(") ▸ words ▸ mark (codes ")") ▸ mark (codes "->") ▸ word
+    ▸ mark (codes "(") ▸ words ▸ mark (codes ")") ▸ optional_word optionals ▸ mark (codes ";")
 
 -- "set" word "{" words ";"
 unfoldable pub set_head : Form Lexeme
@@ -193,7 +195,9 @@ side version name levels = keyword name ▸ mark (codes "{") ▸ repeated (set v
 
 -- ";" source-side target-side { item }
 unfoldable pub body : ℕ → ℕ → Form Lexeme
-body version levels = mark (codes ";") ▸ side version (codes "source") levels ▸ side version (codes "target") levels ▸ repeated (item (since_two version))
+body version levels =
+    mark (codes ";") ▸ side version (codes "source") levels ▸ side version (codes "target") levels
+    ▸ repeated (item (since_two version))
 
 -- the digit of a version, with a body of that version
 abbrev pub version_body : List ℕ → ℕ → ℕ → Form Lexeme
@@ -201,4 +205,6 @@ version_body number version levels = one (digit_is number) ▸ body version leve
 
 -- "mapping", and "1", "2" or "3" with a body of that version, if sets have so many levels of inner sets, at most
 unfoldable pub mapping : ℕ → Form Lexeme
-mapping levels = keyword (codes "mapping") ▸ (version_body (codes "1") 1 levels ∣ version_body (codes "2") 2 levels ∣ version_body (codes "3") 3 levels)
+mapping levels =
+    keyword (codes "mapping") ▸ (version_body (codes "1") 1 levels ∣ version_body (codes "2") 2 levels
+    ∣ version_body (codes "3") 3 levels)

@@ -40,17 +40,21 @@ dep_line margin d = margin ++ (group (codes "dep") d.columns ++ (group (codes " 
 
 abbrev pub ref_line : List ℕ → RefDecl → List ℕ
 ref_line margin r =
-    margin ++ (group (codes "ref") r.columns ++ (codes " -> " ++ (group r.set r.referred ++ (optional_text r.optional ++ codes ";\n"))))
+    margin ++ (group (codes "ref") r.columns
+    ++ (codes " -> " ++ (group r.set r.referred ++ (optional_text r.optional ++ codes ";\n"))))
 
 -- the name of a set, and its columns
 abbrev pub head_lines : List ℕ → Label → List ℕ
-head_lines margin l = margin ++ (codes "set " ++ (l.name ++ (codes " {\n" ++ (wider margin ++ (names_text l.columns ++ codes ";\n")))))
+head_lines margin l =
+    margin ++ (codes "set " ++ (l.name
+    ++ (codes " {\n" ++ (wider margin ++ (names_text l.columns ++ codes ";\n")))))
 
 -- a set up to its inner sets: its columns, its keys, its dependencies and its refs
 abbrev pub front_lines : List ℕ → Label → List ℕ
 front_lines margin l =
     head_lines margin l
-    ++ (flat_map (key_line (wider margin)) l.keys ++ (flat_map (dep_line (wider margin)) l.deps ++ flat_map (ref_line (wider margin)) l.refs))
+    ++ (flat_map (key_line (wider margin)) l.keys
+    ++ (flat_map (dep_line (wider margin)) l.deps ++ flat_map (ref_line (wider margin)) l.refs))
 
 -- the line that ends a set
 abbrev pub last_line : List ℕ → List ℕ
@@ -59,7 +63,8 @@ last_line margin = margin ++ codes "}\n"
 -- the sets of one level in order, each with its inner sets
 abbrev pub printed : List ℕ → Forest → List ℕ
 printed margin none = []
-printed margin (set l inner rest) = front_lines margin l ++ (printed (wider margin) inner ++ (last_line margin ++ printed margin rest))
+printed margin (set l inner rest) =
+    front_lines margin l ++ (printed (wider margin) inner ++ (last_line margin ++ printed margin rest))
 
 -- ---- sets that are read again
 
@@ -92,7 +97,8 @@ abbrev pub HaveWordNames : Forest → Type 0
 HaveWordNames none = Unit {0}
 HaveWordNames (set l inner rest) = HasWordNames l × HaveWordNames inner × HaveWordNames rest
 
--- a mapping text of this version can say the set: it has a dependency alone from version 3 on, and an optional ref alone from version 2 on
+-- a mapping text of this version can say the set: it has a dependency alone from version 3 on,
+-- and an optional ref alone from version 2 on
 pub record IsOfVersion (version : ℕ) (l : Label) : Type 0 where
   pub deps : Each l.deps (λ d. since_three version ≡ true)
   pub refs : Each l.refs (λ r. r.optional ≡ true → since_two version ≡ true)
@@ -102,7 +108,8 @@ abbrev pub AreOfVersion : ℕ → Forest → Type 0
 AreOfVersion version none = Unit {0}
 AreOfVersion version (set l inner rest) = IsOfVersion version l × AreOfVersion version inner × AreOfVersion version rest
 
--- every name is a word, no list of names is empty, a text of this version can say the sets, and there are not too many levels of them
+-- every name is a word, no list of names is empty, a text of this version can say the sets,
+-- and there are not too many levels of them
 pub record AreWritable (version : ℕ) (f : Forest) : Type 0 where
   pub named : HaveWordNames f
   pub sayable : AreOfVersion version f
@@ -120,13 +127,19 @@ digit_of version = (48 + version) ∷ []
 
 -- a mapping of this version with sides of these texts, and without lines, conditions and rules
 abbrev pub sides_text : ℕ → List ℕ → List ℕ → List ℕ
-sides_text version from to = codes "mapping " ++ (digit_of version ++ (codes ";\nsource {\n" ++ (from ++ (codes "}\ntarget {\n" ++ (to ++ codes "}\n")))))
+sides_text version from to =
+    codes "mapping " ++ (digit_of version
+    ++ (codes ";\nsource {\n" ++ (from ++ (codes "}\ntarget {\n" ++ (to ++ codes "}\n")))))
 
 -- what that text says
 abbrev pub sides : ℕ → Forest → Forest → MappingText
-sides version from to = record { version = version; source = from; target = to; lines = []; conditions = []; rules = [] }
+sides version from to =
+    record { version = version; source = from; target = to; lines = []; conditions = []; rules = [] }
 
--- the text is that of the sets: if it stands as a side of a mapping of this version, and other sets are printed as the other side, the mapping is read with these sets
+-- the text is that of the sets: if it stands as a side of a mapping of this version, and other sets are printed as the
+-- other side, the mapping is read with these sets
 pub record IsReadAgain (version : ℕ) (trees : Forest) (text : List ℕ) : Type 0 where
-  pub source : (others : Forest) → AreWritable version others → IsMappingText (sides_text version text (printed [] others)) (sides version trees others)
-  pub target : (others : Forest) → AreWritable version others → IsMappingText (sides_text version (printed [] others) text) (sides version others trees)
+  pub source : (others : Forest) → AreWritable version others
+      → IsMappingText (sides_text version text (printed [] others)) (sides version trees others)
+  pub target : (others : Forest) → AreWritable version others
+      → IsMappingText (sides_text version (printed [] others) text) (sides version others trees)

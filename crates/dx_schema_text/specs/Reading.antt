@@ -76,12 +76,14 @@ dep_reader = do
 
 -- a ref of these columns to these columns of a set, which may be optional
 abbrev pub reference_of : List (List ℕ) → List ℕ → List (List ℕ) → Bool → RefDecl
-reference_of columns referred_set referred is_optional = record { columns = columns; set = referred_set; referred = referred; optional = is_optional }
+reference_of columns referred_set referred is_optional =
+    record { columns = columns; set = referred_set; referred = referred; optional = is_optional }
 
 -- whether the word `optional` stands here, if refs may be optional
 unfoldable pub optional_reader : Bool → Reader Lexeme Bool
 optional_reader false = give false
-optional_reader true = either (word_is (codes "optional")) (token (word_is (codes "optional")) >>= λ keyword. give true) (give false)
+optional_reader true =
+    either (word_is (codes "optional")) (token (word_is (codes "optional")) >>= λ keyword. give true) (give false)
 
 -- what a ref's columns refer to: a set, and columns of it; and whether the ref is optional
 unfoldable pub referred_reader : Bool → List (List ℕ) → Reader Lexeme RefDecl
@@ -148,7 +150,17 @@ sets_among (clauses.Set t ∷ cs) = set t.label t.inner (sets_among cs)
 
 -- a set with this name, these columns and these clauses
 abbrev pub tree_of_clauses : List ℕ → List (List ℕ) → List Clause → Tree
-tree_of_clauses name columns cs = record { label = record { name = name; columns = columns; keys = keys_among cs; deps = deps_among cs; refs = refs_among cs }; inner = sets_among cs }
+tree_of_clauses name columns cs =
+    record {
+      label = record {
+        name = name;
+        columns = columns;
+        keys = keys_among cs;
+        deps = deps_among cs;
+        refs = refs_among cs;
+      };
+      inner = sets_among cs;
+    }
 
 -- a key begins with "key", and if dependencies may stand one begins with "dep"
 abbrev pub begins_determination : Bool → Lexeme → Bool
@@ -158,22 +170,28 @@ begins_determination true x = word_is (codes "key") x || word_is (codes "dep") x
 -- a key, or if dependencies may stand a dependency
 unfoldable pub determination_reader : Bool → Reader Lexeme Clause
 determination_reader false = key_reader >>= λ k. give (key_clause k)
-determination_reader true = either (word_is (codes "key")) (key_reader >>= λ k. give (key_clause k)) (dep_reader >>= λ d. give (dep_clause d))
+determination_reader true =
+    either (word_is (codes "key")) (key_reader >>= λ k. give (key_clause k))
+    (dep_reader >>= λ d. give (dep_clause d))
 
 -- a clause begins as a key or a dependency, or with "ref", and if inner sets may stand with "set"
 abbrev pub begins_clause : ℕ → ℕ → Lexeme → Bool
 begins_clause version zero x = begins_determination (since_three version) x || word_is (codes "ref") x
-begins_clause version (suc levels) x = begins_determination (since_three version) x || (word_is (codes "ref") x || word_is (codes "set") x)
+begins_clause version (suc levels) x =
+    begins_determination (since_three version) x || (word_is (codes "ref") x || word_is (codes "set") x)
 
 -- a key, a dependency or a ref, in a set that has no inner sets
 unfoldable pub last_clause_reader : ℕ → Reader Lexeme Clause
 last_clause_reader version =
-    either (begins_determination (since_three version)) (determination_reader (since_three version)) (ref_reader (since_two version) >>= λ r. give (ref_clause r))
+    either (begins_determination (since_three version)) (determination_reader (since_three version))
+    (ref_reader (since_two version) >>= λ r. give (ref_clause r))
 
 -- a key, a dependency, a ref or an inner set
 unfoldable pub clause_reader_with : ℕ → Reader Lexeme Tree → Reader Lexeme Clause
 clause_reader_with version inner =
-    either (begins_determination (since_three version)) (determination_reader (since_three version)) (either (word_is (codes "ref")) (ref_reader (since_two version) >>= λ r. give (ref_clause r)) (inner >>= λ t. give (set_clause t)))
+    either (begins_determination (since_three version)) (determination_reader (since_three version))
+    (either (word_is (codes "ref")) (ref_reader (since_two version) >>= λ r. give (ref_clause r))
+    (inner >>= λ t. give (set_clause t)))
 
 -- the name and the columns of a set
 unfoldable pub set_head_reader : Reader Lexeme (List ℕ × List (List ℕ))
@@ -196,7 +214,8 @@ set_reader_of begins clause = do
 -- a clause of a set with so many levels of inner sets, at most, in a text of this version
 unfoldable pub clause_reader : ℕ → ℕ → Reader Lexeme Clause
 clause_reader version zero = last_clause_reader version
-clause_reader version (suc levels) = clause_reader_with version (set_reader_of (begins_clause version levels) (clause_reader version levels))
+clause_reader version (suc levels) =
+    clause_reader_with version (set_reader_of (begins_clause version levels) (clause_reader version levels))
 
 -- a set with so many levels of inner sets, at most
 abbrev pub set_reader : ℕ → ℕ → Reader Lexeme Tree
@@ -410,8 +429,13 @@ begins_item true x = word_is (codes "line") x || (word_is (codes "rule") x || wo
 
 -- a line or a rule, or if conditions may stand a condition
 unfoldable pub item_reader : Bool → Reader Lexeme ItemText
-item_reader false = either (word_is (codes "line")) (line_reader >>= λ l. give (line_item l)) (rule_reader >>= λ r. give (rule_item r))
-item_reader true = either (word_is (codes "line")) (line_reader >>= λ l. give (line_item l)) (either (word_is (codes "rule")) (rule_reader >>= λ r. give (rule_item r)) (only_reader >>= λ o. give (only_item o)))
+item_reader false =
+    either (word_is (codes "line")) (line_reader >>= λ l. give (line_item l))
+    (rule_reader >>= λ r. give (rule_item r))
+item_reader true =
+    either (word_is (codes "line")) (line_reader >>= λ l. give (line_item l))
+    (either (word_is (codes "rule")) (rule_reader >>= λ r. give (rule_item r))
+    (only_reader >>= λ o. give (only_item o)))
 
 -- the lines, the conditions and the rules among items
 abbrev pub lines_among : List ItemText → List LineText
@@ -443,7 +467,15 @@ side_reader version name levels = do
 
 -- the mapping of this version, of these sides and items
 abbrev pub mapping_of_items : ℕ → Forest → Forest → List ItemText → MappingText
-mapping_of_items version from to rest = record { version = version; source = from; target = to; lines = lines_among rest; conditions = conditions_among rest; rules = rules_among rest }
+mapping_of_items version from to rest =
+    record {
+      version = version;
+      source = from;
+      target = to;
+      lines = lines_among rest;
+      conditions = conditions_among rest;
+      rules = rules_among rest;
+    }
 
 -- what stands after the number of a version, if sets have so many levels of inner sets, at most
 unfoldable pub body_reader : ℕ → ℕ → Reader Lexeme MappingText
@@ -462,4 +494,5 @@ numbered_reader number version levels = token (digit_is number) >>= λ n. body_r
 unfoldable pub mapping_reader : ℕ → Reader Lexeme MappingText
 mapping_reader levels = do
   keyword ← token (word_is (codes "mapping"))
-  either (digit_is (codes "1")) (numbered_reader (codes "1") 1 levels) (either (digit_is (codes "2")) (numbered_reader (codes "2") 2 levels) (numbered_reader (codes "3") 3 levels))
+  either (digit_is (codes "1")) (numbered_reader (codes "1") 1 levels)
+      (either (digit_is (codes "2")) (numbered_reader (codes "2") 2 levels) (numbered_reader (codes "3") 3 levels))

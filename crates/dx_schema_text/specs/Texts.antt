@@ -1,5 +1,6 @@
 -- What a mapping text says, and its first fault.
-use Rattle.std.specs.Prelude.{◌≡◌, ◌⊎◌, ℕ, zero, suc, ◌-◌, List, [], ◌∷◌, ◌++◌, length, take, codes, Option, Some, None, Result, Ok, Err, Bool, true, false, nat_le, slice_index_or}
+use Rattle.std.specs.Prelude.{◌≡◌, ◌⊎◌, ℕ, zero, suc, ◌-◌, List, [], ◌∷◌, ◌++◌, length, take, codes, Option}
+use Rattle.std.specs.Prelude.{Some, None, Result, Ok, Err, Bool, true, false, nat_le, slice_index_or}
 use Rattle.dx_base.specs.declared.limits.TheConstants.{DEPTH}
 use Rattle.dx_schema.specs.Forest.{Forest, Tree}
 use Rattle.dx_grammar.specs.Forms.{Form, Starts}
@@ -18,7 +19,8 @@ use Rattle.dx_schema_text.specs.declared.clauses.Clause.{Clause}
 use Rattle.dx_schema_text.specs.declared.texts.MappingText.{MappingText}
 use Rattle.dx_schema_text.specs.Grammar.{mapping}
 use Rattle.dx_schema_text.specs.Reading.{mapping_reader}
-use Rattle.dx_schema_text.specs.Spelling.{IsKeyword, IsMarkToken, IsVersion, SpellsHead, SpellsSet, SpellsClauses, SpellsSide, SpellsMapping}
+use Rattle.dx_schema_text.specs.Spelling.{IsKeyword, IsMarkToken, IsVersion, SpellsHead}
+use Rattle.dx_schema_text.specs.Spelling.{SpellsSet, SpellsClauses, SpellsSide, SpellsMapping}
 
 -- a set stands at depth DEPTH at most: a root has one level less of inner sets
 abbrev pub deepest : ℕ
@@ -40,7 +42,8 @@ begun_in (Some s) = begun_token s.begun where
   begun_token None = []
   begun_token (Some x) = x ∷ []
 
--- the tokens that are judged one after the other: those up to the first token fault, and the string or arrow that was begun there
+-- the tokens that are judged one after the other: those up to the first token fault,
+-- and the string or arrow that was begun there
 abbrev pub judged_tokens : List ℕ → List Lexeme
 judged_tokens text = (scan_of text).lexemes ++ begun_in (scan_of text).stop
 
@@ -70,21 +73,30 @@ StandsNowhere text place = (u : IsUnexpectedInMapping text place) × ¬ (StandsD
 abbrev pub StandsTooDeep : List ℕ → ℕ → Type 0
 StandsTooDeep text place = (u : IsUnexpectedInMapping text place) × StandsDeeper text u.number
 
--- So many sets are open after these tokens, which begin with the word `set` of the outermost: of each stand the head and whole
--- clauses there, with as many levels of inner sets as it has room for.
+-- So many sets are open after these tokens, which begin with the word `set` of the outermost: of each stand the head
+-- and whole clauses there, with as many levels of inner sets as it has room for.
 pub data OpenSets : ℕ → ℕ → List Lexeme → Type 0 where
-  one_set : {version : ℕ} {name : List ℕ} {columns : List (List ℕ)} {cs : List Clause} {u v : List Lexeme} → SpellsHead name columns u → SpellsClauses version 0 cs v → OpenSets version 1 (u ++ v)
-  and_inner : {version n : ℕ} {name : List ℕ} {columns : List (List ℕ)} {cs : List Clause} {u v w : List Lexeme} → SpellsHead name columns u → SpellsClauses version n cs v → OpenSets version n w → OpenSets version (suc n) (u ++ (v ++ w))
+  one_set : {version : ℕ} {name : List ℕ} {columns : List (List ℕ)} {cs : List Clause}
+      {u v : List Lexeme} → SpellsHead name columns u → SpellsClauses version 0 cs v → OpenSets version 1 (u ++ v)
+  and_inner : {version n : ℕ} {name : List ℕ} {columns : List (List ℕ)} {cs : List Clause}
+      {u v w : List Lexeme} → SpellsHead name columns u → SpellsClauses version n cs v
+      → OpenSets version n w → OpenSets version (suc n) (u ++ (v ++ w))
 
 -- A side is open after these tokens: its name, an opening brace, whole sets, and so many open ones.
 pub data OpenSide : ℕ → List ℕ → ℕ → List Lexeme → Type 0 where
-  open_side : {version : ℕ} {name : List ℕ} {n : ℕ} {trees : List Tree} {u w : List Lexeme} (k o : Lexeme) → IsKeyword name k → IsMarkToken (codes "{") o → Many (SpellsSet version deepest) trees u → OpenSets version n w
+  open_side : {version : ℕ} {name : List ℕ} {n : ℕ} {trees : List Tree} {u w : List Lexeme}
+      (k o : Lexeme) → IsKeyword name k → IsMarkToken (codes "{") o
+      → Many (SpellsSet version deepest) trees u → OpenSets version n w
       → OpenSide version name n (k ∷ o ∷ (u ++ w))
 
 -- So many sets of a mapping are open after these tokens.
 pub data OpenMapping : ℕ → List Lexeme → Type 0 where
-  in_source : {version n : ℕ} {u : List Lexeme} (k v e : Lexeme) → IsKeyword (codes "mapping") k → IsVersion version v → IsMarkToken (codes ";") e → OpenSide version (codes "source") n u → OpenMapping n (k ∷ v ∷ e ∷ u)
-  in_target : {version n : ℕ} {from : Forest} {u w : List Lexeme} (k v e : Lexeme) → IsKeyword (codes "mapping") k → IsVersion version v → IsMarkToken (codes ";") e → SpellsSide version (codes "source") deepest from u
+  in_source : {version n : ℕ} {u : List Lexeme} (k v e : Lexeme) → IsKeyword (codes "mapping") k
+      → IsVersion version v → IsMarkToken (codes ";") e → OpenSide version (codes "source") n u
+      → OpenMapping n (k ∷ v ∷ e ∷ u)
+  in_target : {version n : ℕ} {from : Forest} {u w : List Lexeme} (k v e : Lexeme)
+      → IsKeyword (codes "mapping") k → IsVersion version v → IsMarkToken (codes ";") e
+      → SpellsSide version (codes "source") deepest from u
       → OpenSide version (codes "target") n w → OpenMapping n (k ∷ v ∷ e ∷ (u ++ w))
 
 -- The token of this number is the word `set` of a set that is too deep: DEPTH sets are open before it.
@@ -99,13 +111,15 @@ pub record IsSetTooDeep (text : List ℕ) (number : ℕ) : Type 0 where
 
 -- All tokens can stand, and the text stops at a token fault or ends too early.
 abbrev pub MappingStops : List ℕ → ℕ → TextKind → Type 0
-MappingStops text place kind = IsStoppedAt mapping_form (judged_tokens text) (fault_in (scan_of text).stop) (length text) Ended place kind
+MappingStops text place kind =
+    IsStoppedAt mapping_form (judged_tokens text) (fault_in (scan_of text).stop) (length text) Ended place kind
 
 -- The first fault of a text.
 abbrev pub IsMappingTextFault : List ℕ → TextFault → Type 0
 IsMappingTextFault text e = IsFaultBy (StandsNowhere text) (StandsTooDeep text) (MappingStops text) e
 
--- ---- the answer, as it is computed: the tokens are read with `deepest` levels of inner sets, and if one can't stand, with one more
+-- ---- the answer, as it is computed: the tokens are read with `deepest` levels of inner sets,
+-- and if one can't stand, with one more
 
 -- whether a reader stops at the token with which so many are left, or before it
 abbrev pub stops_by : {A : Type 0} → ℕ → Result A ℕ → Bool
@@ -122,7 +136,8 @@ unexpected xs left true = At (token_place xs (length xs - left)) Expected
 unexpected xs left false = TooDeep (token_place xs (length xs - left))
 
 -- what is answered of tokens, if the text has so many bytes and its tokens stop so
-abbrev pub mapping_outcome : ℕ → Option (ℕ × TextKind) → List Lexeme → Result MappingText ℕ → Result MappingText ℕ → Result MappingText TextFault
+abbrev pub mapping_outcome : ℕ → Option (ℕ × TextKind) → List Lexeme → Result MappingText ℕ
+    → Result MappingText ℕ → Result MappingText TextFault
 mapping_outcome end stop xs (Err zero) deeper = Err (stop_fault end stop)
 mapping_outcome end stop xs (Err (suc left)) deeper = Err (unexpected xs (suc left) (stops_by (suc left) deeper))
 mapping_outcome end (Some p) xs (Ok m) deeper = Err (At p.0 p.1)
@@ -130,7 +145,8 @@ mapping_outcome end None xs (Ok m) deeper = Ok m
 
 -- what is answered of tokens that are read with `deepest` levels of inner sets, and then with one more
 unfoldable pub mapping_of_tokens : ℕ → Option (ℕ × TextKind) → List Lexeme → Result MappingText TextFault
-mapping_of_tokens end stop xs = mapping_outcome end stop xs (whole (mapping_reader deepest) xs) (whole (mapping_reader DEPTH) xs)
+mapping_of_tokens end stop xs =
+    mapping_outcome end stop xs (whole (mapping_reader deepest) xs) (whole (mapping_reader DEPTH) xs)
 
 -- what is answered of a text
 abbrev pub mapping_of_text : List ℕ → Result MappingText TextFault

@@ -1,5 +1,6 @@
 -- When a script fits a source, a target and a list of conversions.
-use Rattle.std.specs.Prelude.{◌≡◌, ℕ, ◌<◌, Bool, true, false, List, [], ◌∷◌, ◌++◌, flat_map, map, length, slice_index_or}
+use Rattle.std.specs.Prelude.{◌≡◌, ℕ, ◌<◌, Bool, true, false, List, [], ◌∷◌}
+use Rattle.std.specs.Prelude.{◌++◌, flat_map, map, length, slice_index_or}
 use Rattle.dx_base.specs.Members.{◌∈◌, Each}
 use Rattle.dx_base.specs.Texts.{Text}
 use Rattle.dx_schema.specs.Names.{TableNames}
@@ -68,14 +69,17 @@ pub record CellFits (source : List TableNames) (sources : List Text) (cell : Cel
 -- what is selected is a cell, or a listed conversion with as many cells as it takes
 abbrev pub SelectFits : List TableNames → List Conversion → List Text → Select → Type 0
 SelectFits source list sources (Cell cell) = CellFits source sources cell
-SelectFits source list sources (Call name args) = TakesTexts list name (length args) × Each args (CellFits source sources)
+SelectFits source list sources (Call name args) =
+    TakesTexts list name (length args) × Each args (CellFits source sources)
 
 -- both cells that are to be equal fit
 abbrev pub EqualFits : List TableNames → List Text → Equal → Type 0
 EqualFits source sources equal = CellFits source sources equal.left × CellFits source sources equal.right
 
--- the step of a match table comes as the numbers of rules do, and has names of source tables, columns and conversions alone
-pub record MatchFits (source : List TableNames) (list : List Conversion) (before : List Step) (r : ℕ) (select : List Select) (sources : List Text) (equal : List Equal) : Type 0 where
+-- the step of a match table comes as the numbers of rules do, and has names of source tables,
+-- columns and conversions alone
+pub record MatchFits (source : List TableNames) (list : List Conversion) (before : List Step) (r : ℕ)
+    (select : List Select) (sources : List Text) (equal : List Equal) : Type 0 where
   pub number : r ≡ length (match_widths before)
   pub sources_named : Each sources (λ name. name ∈ table_names source)
   pub selected : Each select (SelectFits source list sources)
@@ -109,7 +113,8 @@ ReadsKept steps before r true = r ∈ rules_with_keep before
 ReadsKept steps before r false = ¬ (r ∈ rules_with_keep steps)
 
 -- an insert comes after its target table and its match table, and has a value for each column
-pub record InsertFits (target : List TableNames) (steps before : List Step) (table : Text) (r : ℕ) (kept : Bool) (cells : List Out) : Type 0 where
+pub record InsertFits (target : List TableNames) (steps before : List Step) (table : Text) (r : ℕ)
+    (kept : Bool) (cells : List Out) : Type 0 where
   pub made : table ∈ map (λ (t : Text × List Text). t.0) (created before)
   pub width : length cells ≡ length (table_numbered target (table_named target table)).columns
   pub rule : r < length (match_widths before)
@@ -121,11 +126,14 @@ pub record InsertFits (target : List TableNames) (steps before : List Step) (tab
 -- a step, after the steps before it
 abbrev pub StepFits : List TableNames → List TableNames → List Conversion → List Step → List Step → Step → Type 0
 StepFits source target list steps before (Create table columns) = Unit {0}
-StepFits source target list steps before (MatchRows r select sources equal) = MatchFits source list before r select sources equal
+StepFits source target list steps before (MatchRows r select sources equal) =
+    MatchFits source list before r select sources equal
 StepFits source target list steps before (KeepRows r unless) = KeepFits before r unless
-StepFits source target list steps before (InsertRows table r kept cells) = InsertFits target steps before table r kept cells
+StepFits source target list steps before (InsertRows table r kept cells) =
+    InsertFits target steps before table r kept cells
 
 -- a script fits: it creates the target's tables in order, and each step fits after those before it
 pub record FitsScript (source target : List TableNames) (list : List Conversion) (steps : List Step) : Type 0 where
   pub creates : created steps ≡ map (λ (t : TableNames). (t.name, t.columns)) target
-  pub each : (before after : List Step) (step : Step) → steps ≡ before ++ step ∷ after → StepFits source target list steps before step
+  pub each : (before after : List Step) (step : Step) → steps ≡ before ++ step ∷ after
+      → StepFits source target list steps before step

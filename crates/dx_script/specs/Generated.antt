@@ -1,5 +1,6 @@
 -- The scripts of rules.
-use Rattle.std.specs.Prelude.{ℕ, suc, ◌-◌, ◌&&◌, Bool, true, false, cond, eqb, nat_lt, List, [], ◌∷◌, ◌++◌, map, flat_map, length, slice_index_or}
+use Rattle.std.specs.Prelude.{ℕ, suc, ◌-◌, ◌&&◌, Bool, true, false, cond, eqb, nat_lt}
+use Rattle.std.specs.Prelude.{List, [], ◌∷◌, ◌++◌, map, flat_map, length, slice_index_or}
 use Rattle.std.specs.List.{position_or_len}
 use Rattle.dx_base.specs.Texts.{Text}
 use Rattle.dx_model.specs.declared.rules.Cell.{Cell}
@@ -35,7 +36,8 @@ pub record Spot : Type 0 where
 abbrev pub spots_of_cells : List TableNames → ℕ → ℕ → ℕ → List Cell → List Spot
 spots_of_cells source alias table column [] = []
 spots_of_cells source alias table column (c ∷ cs) =
-    record { alias = alias; column = column; name = column_at source table column; cell = c } ∷ spots_of_cells source alias table (suc column) cs
+    record { alias = alias; column = column; name = column_at source table column; cell = c }
+    ∷ spots_of_cells source alias table (suc column) cs
 
 -- the cells of these atoms, in order of atoms and columns; the first atom has this alias
 abbrev pub spots : List TableNames → ℕ → List Atom → List Spot
@@ -59,7 +61,9 @@ shows s = record { alias = s.alias; column = s.name }
 
 -- a cell is equal to the first cell of its variable, if it isn't that one
 abbrev pub equal_to : Spot → Spot → List Equal
-equal_to first s = cond (eqb first.alias s.alias && eqb first.column s.column) [] (record { left = shows first; right = shows s } ∷ [])
+equal_to first s =
+    cond (eqb first.alias s.alias && eqb first.column s.column) []
+    (record { left = shows first; right = shows s } ∷ [])
 
 -- what is equal to a cell, among all cells of a premise
 abbrev pub further : List Spot → Spot → Cell → List Equal
@@ -78,7 +82,8 @@ abbrev pub select_of : List Conversion → List Spot → Rule → ℕ → Select
 select_of list all d x =
     let n = after_cells (cells_of d.premise) in
     let e = slice_index_or d.derived (x - n) (record { code = 0; args = [] }) in
-    cond (nat_lt x n) (Shown (shows (first_spot x all))) (Call (conversion_name list e.code) (map (λ y. shows (first_spot y all)) e.args))
+    cond (nat_lt x n) (Shown (shows (first_spot x all)))
+    (Call (conversion_name list e.code) (map (λ y. shows (first_spot y all)) e.args))
 
 -- what is selected for a rule: its exported variables, ascending
 abbrev pub selects_of : List TableNames → List Conversion → Rule → List Select
@@ -90,7 +95,8 @@ sources_of source d = map (λ (a : Atom). (table_numbered source a.table).name) 
 
 -- the match step of rule number r
 abbrev pub match_step : List TableNames → List Conversion → ℕ → Rule → Step
-match_step source list r d = MatchRows r (selects_of source list d) (sources_of source d) (equals (spots source 0 d.premise))
+match_step source list r d =
+    MatchRows r (selects_of source list d) (sources_of source d) (equals (spots source 0 d.premise))
 
 -- ---- keep steps
 
@@ -140,7 +146,8 @@ insert_steps target keeps R = flat_map (λ r. inserts_of target (has_parts (keep
 
 -- the script of rules, of which each keeps the tuples without a partner by its parts
 abbrev pub script_with : List TableNames → List TableNames → List Conversion → (ℕ → List Unless) → List Rule → List Step
-script_with source target list keeps R = create_steps target ++ (match_steps source list R ++ (keep_steps keeps R ++ insert_steps target keeps R))
+script_with source target list keeps R =
+    create_steps target ++ (match_steps source list R ++ (keep_steps keeps R ++ insert_steps target keeps R))
 
 -- the plain script has no keep steps
 abbrev pub plain_steps : List TableNames → List TableNames → List Conversion → List Rule → List Step

@@ -33,9 +33,12 @@ pub record RulesFit (source target : Forest) (list : List Conversion) (R : List 
 -- the match table of a rule's step is its rows
 abbrev pub MatchTableIsRows : Type 0
 MatchTableIsRows =
-    (source target : Forest) (convert : Conversions) (list : List Conversion) (R : List Rule) (d : Rule) (I : List Fact) (ts : List Tuple)
+    (source target : Forest) (convert : Conversions) (list : List Conversion) (R : List Rule) (d : Rule)
+    (I : List Fact) (ts : List Tuple)
     → RulesFit source target list R → d ∈ R → IsInstance (model_tables source) I
-    → IsMatchTable (table_names_of source) (call_named convert list) I (selects_of (table_names_of source) list d) (sources_of (table_names_of source) d) (equals (spots (table_names_of source) 0 d.premise)) ts
+    → IsMatchTable (table_names_of source) (call_named convert list) I
+    (selects_of (table_names_of source) list d) (sources_of (table_names_of source) d)
+    (equals (spots (table_names_of source) 0 d.premise)) ts
     ↔ IsRows convert d I ts
 
 -- a place is left by the keep steps if its tuple has no partner
@@ -49,35 +52,47 @@ pub record IsLeftPlace (keeps : ℕ → List Unless) (R : List Rule) (tables : R
 -- a script of rules means the rows of the rules, and the facts of the places that are left
 abbrev pub ScriptMeansLeft : Type 0
 ScriptMeansLeft =
-    (source target : Forest) (convert : Conversions) (list : List Conversion) (keeps : ℕ → List Unless) (R : List Rule) (I : List Fact) (tables : Rows) (K : List Fact)
+    (source target : Forest) (convert : Conversions) (list : List Conversion) (keeps : ℕ → List Unless)
+    (R : List Rule) (I : List Fact) (tables : Rows) (K : List Fact)
     → RulesFit source target list R → IsInstance (model_tables source) I
-    → Means (table_names_of source) (table_names_of target) (call_named convert list) (script_with (table_names_of source) (table_names_of target) list keeps R) I tables K
+    → Means (table_names_of source) (table_names_of target) (call_named convert list)
+    (script_with (table_names_of source) (table_names_of target) list keeps R) I tables K
     ↔ (AreRows convert R I tables × ((f : Fact) → (f ∈ K) ↔ IsLeftPlace keeps R tables f))
 
 -- the plain script means the canonical instance
 abbrev pub PlainMeansCanonical : Type 0
 PlainMeansCanonical =
-    (source target : Forest) (convert : Conversions) (list : List Conversion) (R : List Rule) (I : List Fact) (tables : Rows) (K : List Fact)
+    (source target : Forest) (convert : Conversions) (list : List Conversion) (R : List Rule)
+    (I : List Fact) (tables : Rows) (K : List Fact)
     → RulesFit source target list R → IsInstance (model_tables source) I
-    → Means (table_names_of source) (table_names_of target) (call_named convert list) (plain_steps (table_names_of source) (table_names_of target) list R) I tables K
+    → Means (table_names_of source) (table_names_of target) (call_named convert list)
+    (plain_steps (table_names_of source) (table_names_of target) list R) I tables K
     ↔ (AreRows convert R I tables × (K ⊆ canonical 0 R tables) × (canonical 0 R tables ⊆ K))
 
 -- the rewritten script means the uncovered part
 abbrev pub RewrittenMeansUncovered : Type 0
 RewrittenMeansUncovered =
-    (source target : Forest) (convert : Conversions) (list : List Conversion) (R : List Rule) (I : List Fact) (tables : Rows) (K : List Fact)
+    (source target : Forest) (convert : Conversions) (list : List Conversion) (R : List Rule)
+    (I : List Fact) (tables : Rows) (K : List Fact)
     → RulesFit source target list R → IsInstance (model_tables source) I
-    → Means (table_names_of source) (table_names_of target) (call_named convert list) (rewritten_steps (table_names_of source) (table_names_of target) list R) I tables K
-    ↔ (AreRows convert R I tables × (K ⊆ uncovered (least_cover R tables) 0 R tables) × (uncovered (least_cover R tables) 0 R tables ⊆ K))
+    → Means (table_names_of source) (table_names_of target) (call_named convert list)
+    (rewritten_steps (table_names_of source) (table_names_of target) list R) I tables K
+    ↔ (AreRows convert R I tables × (K ⊆ uncovered (least_cover R tables) 0 R tables)
+    × (uncovered (least_cover R tables) 0 R tables ⊆ K))
 
 -- the plain and the rewritten script fit
 abbrev pub GeneratedFit : Type 0
 GeneratedFit =
     (source target : Forest) (list : List Conversion) (R : List Rule) → RulesFit source target list R
-    → FitsScript (table_names_of source) (table_names_of target) list (plain_steps (table_names_of source) (table_names_of target) list R) × FitsScript (table_names_of source) (table_names_of target) list (rewritten_steps (table_names_of source) (table_names_of target) list R)
+    → FitsScript (table_names_of source) (table_names_of target) list
+    (plain_steps (table_names_of source) (table_names_of target) list R)
+    × FitsScript (table_names_of source) (table_names_of target) list
+    (rewritten_steps (table_names_of source) (table_names_of target) list R)
 
 -- a script has one meaning at most on the rows of a source
 abbrev pub MeaningIsUnique : Type 0
 MeaningIsUnique =
-    (source target : List TableNames) (call : Text → Tuple → Text) (steps : List Step) (I : List Fact) (tables others : Rows) (K L : List Fact)
-    → Means source target call steps I tables K → Means source target call steps I others L → (tables ≡ others) × (K ⊆ L) × (L ⊆ K)
+    (source target : List TableNames) (call : Text → Tuple → Text) (steps : List Step) (I : List Fact)
+    (tables others : Rows) (K L : List Fact)
+    → Means source target call steps I tables K → Means source target call steps I others L
+    → (tables ≡ others) × (K ⊆ L) × (L ⊆ K)

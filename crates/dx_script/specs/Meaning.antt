@@ -30,7 +30,8 @@ table_of_alias source sources alias = table_named source (slice_index_or sources
 
 -- the text of a cell, if each alias has a row of texts
 abbrev pub alias_cell_text : List TableNames → List Text → (ℕ → Tuple) → CellRef → Text
-alias_cell_text source sources rows c = slice_index_or (rows c.alias) (column_named source (table_of_alias source sources c.alias) c.column) []
+alias_cell_text source sources rows c =
+    slice_index_or (rows c.alias) (column_named source (table_of_alias source sources c.alias) c.column) []
 
 -- the text that is selected, if each alias has a row of texts
 abbrev pub selected : List TableNames → (Text → Tuple → Text) → List Text → (ℕ → Tuple) → Select → Text
@@ -38,14 +39,20 @@ selected source call sources rows (Cell c) = alias_cell_text source sources rows
 selected source call sources rows (Call name args) = call name (map (alias_cell_text source sources rows) args)
 
 -- each alias has a row of its source table, and cells that are to be equal have one text
-pub record IsAssignment (source : List TableNames) (I : List Fact) (sources : List Text) (equal : List Equal) (rows : ℕ → Tuple) : Type 0 where
-  pub of_source : (alias : ℕ) → alias < length sources → record { table = table_of_alias source sources alias; row = map Const (rows alias) } ∈ I
-  pub agree : (e : Equal) → e ∈ equal → alias_cell_text source sources rows e.left ≡ alias_cell_text source sources rows e.right
+pub record IsAssignment (source : List TableNames) (I : List Fact) (sources : List Text)
+    (equal : List Equal) (rows : ℕ → Tuple) : Type 0 where
+  pub of_source : (alias : ℕ) → alias < length sources
+      → record { table = table_of_alias source sources alias; row = map Const (rows alias) } ∈ I
+  pub agree : (e : Equal) → e ∈ equal
+      → alias_cell_text source sources rows e.left ≡ alias_cell_text source sources rows e.right
 
 -- a match table: it ascends, and has exactly the tuples that the assignments select
-pub record IsMatchTable (source : List TableNames) (call : Text → Tuple → Text) (I : List Fact) (select : List Select) (sources : List Text) (equal : List Equal) (tuples : List Tuple) : Type 0 where
+pub record IsMatchTable (source : List TableNames) (call : Text → Tuple → Text) (I : List Fact)
+    (select : List Select) (sources : List Text) (equal : List Equal) (tuples : List Tuple) : Type 0 where
   pub ascend : TuplesAscend tuples
-  pub exact : (t : Tuple) → (t ∈ tuples) ↔ ((rows : ℕ → Tuple) × IsAssignment source I sources equal rows × (t ≡ map (selected source call sources rows) select))
+  pub exact : (t : Tuple) → (t ∈ tuples)
+      ↔ ((rows : ℕ → Tuple) × IsAssignment source I sources equal rows
+      × (t ≡ map (selected source call sources rows) select))
 
 -- the match table of rule r
 abbrev pub match_table : Rows → ℕ → List Tuple
@@ -65,7 +72,8 @@ MakesTrue own other (Same d text) = in_column own d ≡ text
 -- no tuple of the other match tables makes all the tests of a part true
 abbrev pub HasNoPartner : Rows → List Unless → Tuple → Type 0
 HasNoPartner tables unless own =
-    (u : Unless) → u ∈ unless → (other : Tuple) → other ∈ match_table tables u.rule → ¬ ((t : Test) → t ∈ u.tests → MakesTrue own other t)
+    (u : Unless) → u ∈ unless → (other : Tuple) → other ∈ match_table tables u.rule
+    → ¬ ((t : Test) → t ∈ u.tests → MakesTrue own other t)
 
 -- the tuple is in the keep table of rule r
 abbrev pub IsInKeepTable : List Step → Rows → ℕ → Tuple → Type 0
@@ -89,13 +97,20 @@ pub record IsInserted (target : List TableNames) (steps : List Step) (tables : R
   pub place : ℕ
   pub within : place < length (match_table tables rule)
   pub stays : IsTrue kept → IsInKeepTable steps tables rule (tuple_at tables rule place)
-  pub is : record { table = table_named target table; row = map (inserted rule place (tuple_at tables rule place)) cells } ≡ f
+  pub is : record {
+    table = table_named target table;
+    row = map (inserted rule place (tuple_at tables rule place)) cells;
+  } ≡ f
 
 -- ---- scripts
 
 -- a script means these match tables and these facts on the rows I of a source
-pub record Means (source target : List TableNames) (call : Text → Tuple → Text) (steps : List Step) (I : List Fact) (tables : Rows) (K : List Fact) : Type 0 where
-  pub matches : (r : ℕ) (select : List Select) (sources : List Text) (equal : List Equal) → MatchRows r select sources equal ∈ steps
+pub record Means (source target : List TableNames) (call : Text → Tuple → Text) (steps : List Step)
+    (I : List Fact) (tables : Rows) (K : List Fact) : Type 0 where
+  pub matches : (r : ℕ) (select : List Select) (sources : List Text) (equal : List Equal)
+      → MatchRows r select sources equal ∈ steps
       → (r < length tables) × IsMatchTable source call I select sources equal (match_table tables r)
-  pub no_more : (r : ℕ) → r < length tables → (select : List Select) × (sources : List Text) × (equal : List Equal) × (MatchRows r select sources equal ∈ steps)
+  pub no_more : (r : ℕ) → r < length tables
+      → (select : List Select) × (sources : List Text) × (equal : List Equal)
+      × (MatchRows r select sources equal ∈ steps)
   pub facts : (f : Fact) → (f ∈ K) ↔ IsInserted target steps tables f

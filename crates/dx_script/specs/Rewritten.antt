@@ -15,7 +15,8 @@ use Rattle.dx_script.specs.declared.form.Unless.{Unless}
 use Rattle.dx_script.specs.declared.form.Step.{Step}
 use Rattle.dx_script.specs.Generated.{script_with}
 
--- the test that variable x of rule i has the text of the cell of rule j that it meets; it never meets an existential one
+-- the test that variable x of rule i has the text of the cell of rule j that it meets;
+-- it never meets an existential one
 abbrev pub test_of : Rule → Rule → ℕ → Cell → Test
 test_of i j x (Var y) = Columns (position_or_len (eqb y) (exported j)) (position_or_len (eqb x) (exported i))
 test_of i j x (Lit t) = Same (position_or_len (eqb x) (exported i)) t

@@ -56,7 +56,9 @@ declared_column = any kinds.Name ▸ any kinds.Type
 
 -- target . "table" ( columns ) ;
 unfoldable pub create_rest : Form ScriptToken
-create_rest = any kinds.Target ▸ any kinds.Dot ▸ any kinds.Name ▸ any kinds.Open ▸ listed is_comma declared_column ▸ any kinds.Close ▸ any kinds.Semicolon
+create_rest =
+    any kinds.Target ▸ any kinds.Dot ▸ any kinds.Name ▸ any kinds.Open ▸ listed is_comma declared_column
+    ▸ any kinds.Close ▸ any kinds.Semicolon
 
 -- a<n> . "column"
 unfoldable pub alias_cell : Form ScriptToken
@@ -100,11 +102,16 @@ where_clause = any kinds.Where ▸ listed is_and equal
 
 -- m<r> AS SELECT DISTINCT select FROM sources [ where ] ;
 unfoldable pub match_rest : ℕ → Form ScriptToken
-match_rest top = any kinds.Match ▸ any kinds.As ▸ any kinds.Select ▸ any kinds.Distinct ▸ select top ▸ any kinds.From ▸ sources top ▸ optional where_clause ▸ any kinds.Semicolon
+match_rest top =
+    any kinds.Match ▸ any kinds.As ▸ any kinds.Select ▸ any kinds.Distinct ▸ select top ▸ any kinds.From
+    ▸ sources top ▸ optional where_clause ▸ any kinds.Semicolon
 
 -- n . c<other> = m . c<own> | m . c<own> = 'text'
 unfoldable pub test : Form ScriptToken
-test = (any kinds.Other ▸ any kinds.Dot ▸ any kinds.Column ▸ any kinds.Equal ▸ any kinds.Own ▸ any kinds.Dot ▸ any kinds.Column) ∣ (any kinds.Own ▸ any kinds.Dot ▸ any kinds.Column ▸ any kinds.Equal ▸ any kinds.Text)
+test =
+    (any kinds.Other ▸ any kinds.Dot ▸ any kinds.Column ▸ any kinds.Equal ▸ any kinds.Own
+    ▸ any kinds.Dot ▸ any kinds.Column)
+    ∣ (any kinds.Own ▸ any kinds.Dot ▸ any kinds.Column ▸ any kinds.Equal ▸ any kinds.Text)
 
 -- WHERE test { AND test }
 unfoldable pub tests : Form ScriptToken
@@ -112,11 +119,15 @@ tests = any kinds.Where ▸ listed is_and test
 
 -- NOT EXISTS ( SELECT * FROM m<j> AS n [ tests ] )
 unfoldable pub unless : Form ScriptToken
-unless = any kinds.Not ▸ any kinds.Exists ▸ any kinds.Open ▸ any kinds.Select ▸ any kinds.Star ▸ any kinds.From ▸ any kinds.Match ▸ any kinds.As ▸ any kinds.Other ▸ optional tests ▸ any kinds.Close
+unless =
+    any kinds.Not ▸ any kinds.Exists ▸ any kinds.Open ▸ any kinds.Select ▸ any kinds.Star
+    ▸ any kinds.From ▸ any kinds.Match ▸ any kinds.As ▸ any kinds.Other ▸ optional tests ▸ any kinds.Close
 
 -- AS SELECT * FROM m<r> AS m WHERE unless { AND unless } ;
 unfoldable pub keep_tail : ℕ → Form ScriptToken
-keep_tail r = any kinds.As ▸ any kinds.Select ▸ any kinds.Star ▸ any kinds.From ▸ one (match_is r) ▸ any kinds.As ▸ any kinds.Own ▸ any kinds.Where ▸ listed is_and unless ▸ any kinds.Semicolon
+keep_tail r =
+    any kinds.As ▸ any kinds.Select ▸ any kinds.Star ▸ any kinds.From ▸ one (match_is r) ▸ any kinds.As
+    ▸ any kinds.Own ▸ any kinds.Where ▸ listed is_and unless ▸ any kinds.Semicolon
 
 -- k<r> and its tail, for some rule r
 unfoldable pub keep_rest : ℕ → Form ScriptToken
@@ -132,7 +143,9 @@ column_out = any kinds.Own ▸ any kinds.Dot ▸ any kinds.Column
 
 -- , v , m . place )
 unfoldable pub skolem_tail : Form ScriptToken
-skolem_tail = any kinds.Comma ▸ any kinds.Number ▸ any kinds.Comma ▸ any kinds.Own ▸ any kinds.Dot ▸ any kinds.Place ▸ any kinds.Close
+skolem_tail =
+    any kinds.Comma ▸ any kinds.Number ▸ any kinds.Comma ▸ any kinds.Own ▸ any kinds.Dot
+    ▸ any kinds.Place ▸ any kinds.Close
 
 -- SKOLEM ( r , v , m . place )
 unfoldable pub skolem_out : ℕ → Form ScriptToken
@@ -148,11 +161,14 @@ insert_end = any kinds.As ▸ any kinds.Own ▸ any kinds.Semicolon
 
 -- outs FROM m<r> or k<r> AS m ;
 unfoldable pub insert_tail : ℕ → Form ScriptToken
-insert_tail r = (out r ▸ repeated (one is_comma ▸ out r)) ▸ any kinds.From ▸ one (has_number is_table number r) ▸ insert_end
+insert_tail r =
+    (out r ▸ repeated (one is_comma ▸ out r)) ▸ any kinds.From ▸ one (has_number is_table number r) ▸ insert_end
 
 -- INSERT INTO target . "table" SELECT and its tail, for some rule r
 unfoldable pub insert : ℕ → Form ScriptToken
-insert top = any kinds.Insert ▸ any kinds.Into ▸ any kinds.Target ▸ any kinds.Dot ▸ any kinds.Name ▸ any kinds.Select ▸ any_to top insert_tail
+insert top =
+    any kinds.Insert ▸ any kinds.Into ▸ any kinds.Target ▸ any kinds.Dot ▸ any kinds.Name
+    ▸ any kinds.Select ▸ any_to top insert_tail
 
 -- create_rest | match_rest | keep_rest
 unfoldable pub table_rest : ℕ → Form ScriptToken

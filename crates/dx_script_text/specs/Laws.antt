@@ -11,11 +11,14 @@ use Rattle.dx_script_text.specs.Texts.{script_form, IsScriptText, IsScriptTextFa
 
 -- the texts of the form are just the token lists that spell a script
 abbrev pub TextsAreSpelled : Type 0
-TextsAreSpelled = (xs : List ScriptToken) → Derives script_form xs ↔ ((s : List Step) × SpellsScript greatest_number s xs)
+TextsAreSpelled =
+    (xs : List ScriptToken) → Derives script_form xs ↔ ((s : List Step) × SpellsScript greatest_number s xs)
 
 -- the starts of the form are just the fronts of the token lists that spell a script
 abbrev pub StartsAreSpelled : Type 0
-StartsAreSpelled = (xs : List ScriptToken) → Starts script_form xs ↔ ((ys : List ScriptToken) × (s : List Step) × SpellsScript greatest_number s (xs ++ ys))
+StartsAreSpelled =
+    (xs : List ScriptToken) → Starts script_form xs
+    ↔ ((ys : List ScriptToken) × (s : List Step) × SpellsScript greatest_number s (xs ++ ys))
 
 -- a text says at most one script, and it has at most one first fault
 abbrev pub OneScript : Type 0

@@ -42,7 +42,9 @@ abbrev pub declared_text : Bytes → Bytes
 declared_text column = name_text column ++ codes " TEXT"
 
 abbrev pub create_text : Bytes → List Bytes → Bytes
-create_text table columns = codes "CREATE TABLE target." ++ (name_text table ++ (codes " (" ++ (parted (codes ", ") (map declared_text columns) ++ codes ");\n")))
+create_text table columns =
+    codes "CREATE TABLE target."
+    ++ (name_text table ++ (codes " (" ++ (parted (codes ", ") (map declared_text columns) ++ codes ");\n")))
 
 -- ---- CREATE TABLE m<r>
 
@@ -82,7 +84,11 @@ where_clause_text (text ∷ others) = codes " WHERE " ++ parted (codes " AND ") 
 
 abbrev pub match_text : ℕ → List Select → List Bytes → List Equal → Bytes
 match_text rule select sources equal =
-    codes "CREATE TABLE m" ++ (decimal rule ++ (codes " AS SELECT DISTINCT " ++ (select_text select ++ (codes " FROM " ++ (parted (codes ", ") (texts_from source_alias_text 0 sources) ++ (where_clause_text (map equal_text equal) ++ codes ";\n"))))))
+    codes "CREATE TABLE m" ++ (decimal rule
+    ++ (codes " AS SELECT DISTINCT "
+    ++ (select_text select ++ (codes " FROM "
+    ++ (parted (codes ", ") (texts_from source_alias_text 0 sources)
+    ++ (where_clause_text (map equal_text equal) ++ codes ";\n"))))))
 
 -- ---- CREATE TABLE k<r>
 
@@ -91,10 +97,16 @@ test_text (tested.Columns other own) = codes "n.c" ++ (decimal other ++ (codes "
 test_text (tested.Literal own text) = codes "m.c" ++ (decimal own ++ (codes " = " ++ single_quoted text))
 
 abbrev pub unless_text : Unless → Bytes
-unless_text u = codes "NOT EXISTS (SELECT * FROM m" ++ (decimal u.rule ++ (codes " AS n" ++ (where_clause_text (map test_text u.tests) ++ codes ")")))
+unless_text u =
+    codes "NOT EXISTS (SELECT * FROM m"
+    ++ (decimal u.rule ++ (codes " AS n" ++ (where_clause_text (map test_text u.tests) ++ codes ")")))
 
 abbrev pub keep_text : ℕ → List Unless → Bytes
-keep_text rule unless = codes "CREATE TABLE k" ++ (decimal rule ++ (codes " AS SELECT * FROM m" ++ (decimal rule ++ (codes " AS m WHERE " ++ (parted (codes " AND ") (map unless_text unless) ++ codes ";\n")))))
+keep_text rule unless =
+    codes "CREATE TABLE k" ++ (decimal rule
+    ++ (codes " AS SELECT * FROM m"
+    ++ (decimal rule ++ (codes " AS m WHERE "
+    ++ (parted (codes " AND ") (map unless_text unless) ++ codes ";\n")))))
 
 -- ---- INSERT
 
@@ -111,7 +123,9 @@ table_letter false = codes "m"
 
 abbrev pub insert_text : Bytes → ℕ → Bool → List Out → Bytes
 insert_text table rule kept cells =
-    codes "INSERT INTO target." ++ (name_text table ++ (codes " SELECT " ++ (parted (codes ", ") (map (out_text rule) cells) ++ (codes " FROM " ++ (table_letter kept ++ (decimal rule ++ codes " AS m;\n"))))))
+    codes "INSERT INTO target." ++ (name_text table
+    ++ (codes " SELECT " ++ (parted (codes ", ") (map (out_text rule) cells)
+    ++ (codes " FROM " ++ (table_letter kept ++ (decimal rule ++ codes " AS m;\n"))))))
 
 -- ---- scripts
 

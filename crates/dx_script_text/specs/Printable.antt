@@ -57,10 +57,13 @@ IsOut (outs.Skolem v) = NumberFits v
 
 abbrev pub IsStep : Step → Type 0
 IsStep (steps.Create table columns) = IsScriptName table × AreSome IsScriptName columns
-IsStep (steps.MatchRows rule select sources equal) = NumberFits rule × (Each select IsSelect × AreCounted select) × (AreSome IsScriptName sources × AreCounted sources) × Each equal IsEqual
+IsStep (steps.MatchRows rule select sources equal) =
+    NumberFits rule × (Each select IsSelect × AreCounted select)
+    × (AreSome IsScriptName sources × AreCounted sources) × Each equal IsEqual
 IsStep (steps.KeepRows rule unless) = NumberFits rule × AreSome IsUnless unless
 IsStep (steps.InsertRows table rule kept cells) = IsScriptName table × NumberFits rule × AreSome IsOut cells
 
--- every name is one, every number fits, every text is UTF-8, no list that the grammar wants is empty, and there are enough numbers for columns and aliases
+-- every name is one, every number fits, every text is UTF-8, no list that the grammar wants is empty,
+-- and there are enough numbers for columns and aliases
 abbrev pub IsPrintableScript : Script → Type 0
 IsPrintableScript s = Each s.steps IsStep

@@ -2,7 +2,8 @@
 use Rattle.std.specs.Prelude.{ℕ, ◌-◌, Bool, ◌||◌, List, [], ◌∷◌, length}
 use Rattle.dx_grammar.specs.Readers.{Reader, ◌>>=◌, give, token, either, many, with_front}
 use Rattle.dx_grammar.specs.Lists.{past, list_reader}
-use Rattle.dx_grammar.specs.Numbers.{counted_reader, Knower, ◌then◌, giving, always, number_token, choosing, knowing, number_then, unknowing}
+use Rattle.dx_grammar.specs.Numbers.{counted_reader, Knower, ◌then◌, giving, always}
+use Rattle.dx_grammar.specs.Numbers.{number_token, choosing, knowing, number_then, unknowing}
 use Rattle.dx_script.specs.declared.form.CellRef.{CellRef}
 use Rattle.dx_script.specs.declared.form.Select.{Select}
 use Rattle.dx_script.specs.declared.form.Select.TheVariants as selected
@@ -16,7 +17,8 @@ use Rattle.dx_script.specs.declared.form.Step.{Step}
 use Rattle.dx_script.specs.declared.form.Step.TheVariants as made
 use Rattle.dx_script_tokens.specs.declared.scanner.ScriptToken.{ScriptToken}
 use Rattle.dx_script_tokens.specs.declared.kinds.ScriptKind.TheVariants as kinds
-use Rattle.dx_script_text.specs.Grammar.{of_kind, number, match_is, alias_is, column_is, number_is, is_table, is_comma, is_and}
+use Rattle.dx_script_text.specs.Grammar.{of_kind, number, match_is, alias_is, column_is}
+use Rattle.dx_script_text.specs.Grammar.{number_is, is_table, is_comma, is_and}
 
 -- ---- values
 
@@ -60,7 +62,8 @@ skolem_cell v = outs.Skolem v
 
 -- all of these, and those that follow, each after a comma and with the next number
 abbrev pub and_counted : {A : Type 0} → (ℕ → Reader ScriptToken A) → List A → Reader ScriptToken (List A)
-and_counted next all tokens = with_front all (counted_reader is_comma next (4294967296 - length all) (length all) tokens)
+and_counted next all tokens =
+    with_front all (counted_reader is_comma next (4294967296 - length all) (length all) tokens)
 
 -- ---- CREATE TABLE target
 
@@ -267,10 +270,15 @@ skolem_tail_reader = do
   give v.number
 
 unfoldable pub skolem_reader : ℕ → Knower ScriptToken Out
-skolem_reader top = always (token (of_kind kinds.Skolem)) then λ word. always (token (of_kind kinds.Open)) then λ opening. number_token (of_kind kinds.Number) number top then λ rule. always skolem_tail_reader then λ v. giving (skolem_cell v)
+skolem_reader top =
+    always (token (of_kind kinds.Skolem)) then λ word. always (token (of_kind kinds.Open))
+    then λ opening. number_token (of_kind kinds.Number) number top
+    then λ rule. always skolem_tail_reader then λ v. giving (skolem_cell v)
 
 unfoldable pub out_reader : ℕ → Knower ScriptToken Out
-out_reader top = choosing (of_kind kinds.Text) (always text_out_reader) (choosing (of_kind kinds.Own) (always column_out_reader) (skolem_reader top))
+out_reader top =
+    choosing (of_kind kinds.Text) (always text_out_reader)
+    (choosing (of_kind kinds.Own) (always column_out_reader) (skolem_reader top))
 
 unfoldable pub comma_out : ℕ → Knower ScriptToken Out
 comma_out top = always (token is_comma) then λ comma. out_reader top
@@ -286,7 +294,10 @@ insert_end_reader = do
   give tt
 
 unfoldable pub insert_tail_reader : ℕ → List ℕ → Knower ScriptToken Step
-insert_tail_reader top table = outs_reader top then λ cells. always (token (of_kind kinds.From)) then λ from_word. number_token is_table number top then λ t. always insert_end_reader then λ u. giving (insert_step_of table t.number (of_kind kinds.Keep t) cells)
+insert_tail_reader top table =
+    outs_reader top then λ cells. always (token (of_kind kinds.From))
+    then λ from_word. number_token is_table number top then λ t. always insert_end_reader
+    then λ u. giving (insert_step_of table t.number (of_kind kinds.Keep t) cells)
 
 unfoldable pub insert_reader : ℕ → Reader ScriptToken Step
 insert_reader top = do
@@ -301,7 +312,8 @@ insert_reader top = do
 -- ---- steps
 
 unfoldable pub table_reader : ℕ → Reader ScriptToken Step
-table_reader top = either (of_kind kinds.Target) create_reader (either (of_kind kinds.Match) (match_reader top) (keep_reader top))
+table_reader top =
+    either (of_kind kinds.Target) create_reader (either (of_kind kinds.Match) (match_reader top) (keep_reader top))
 
 unfoldable pub created_reader : ℕ → Reader ScriptToken Step
 created_reader top = do

@@ -1,5 +1,6 @@
 -- What a text says, and its first fault.
-use Rattle.std.specs.Prelude.{◌≡◌, ◌⊎◌, ℕ, zero, suc, ◌-◌, List, [], ◌∷◌, ◌++◌, length, Option, Some, None, Result, Ok, Err, slice_index_or}
+use Rattle.std.specs.Prelude.{◌≡◌, ◌⊎◌, ℕ, zero, suc, ◌-◌, List, [], ◌∷◌, ◌++◌, length}
+use Rattle.std.specs.Prelude.{Option, Some, None, Result, Ok, Err, slice_index_or}
 use Rattle.dx_grammar.specs.Forms.{Form}
 use Rattle.dx_grammar.specs.Faults.{IsUnexpectedAt, IsStoppedAt}
 use Rattle.dx_grammar.specs.Readers.{whole}
@@ -31,7 +32,8 @@ script_begun_in (Some s) = begun_token s.begun where
   begun_token None = []
   begun_token (Some x) = x ∷ []
 
--- the tokens that are judged one after the other: those up to the first token fault, and the name or text that was begun there
+-- the tokens that are judged one after the other: those up to the first token fault,
+-- and the name or text that was begun there
 abbrev pub judged_script_tokens : List ℕ → List ScriptToken
 judged_script_tokens text = (script_scan_of text).tokens ++ script_begun_in (script_scan_of text).stop
 
@@ -47,11 +49,14 @@ script_fault_in (Some s) = Some (s.place, s.kind)
 
 -- The token that stands at this place is the first that can't stand.
 abbrev pub IsUnexpectedInScript : List ℕ → ℕ → Type 0
-IsUnexpectedInScript text place = IsUnexpectedAt script_form (λ (x : ScriptToken). x.place) (judged_script_tokens text) place
+IsUnexpectedInScript text place =
+    IsUnexpectedAt script_form (λ (x : ScriptToken). x.place) (judged_script_tokens text) place
 
 -- All tokens can stand, and the text stops at a token fault or ends too early.
 abbrev pub ScriptStops : List ℕ → ℕ → TextKind → Type 0
-ScriptStops text place kind = IsStoppedAt script_form (judged_script_tokens text) (script_fault_in (script_scan_of text).stop) (length text) Ended place kind
+ScriptStops text place kind =
+    IsStoppedAt script_form (judged_script_tokens text) (script_fault_in (script_scan_of text).stop)
+    (length text) Ended place kind
 
 -- The first fault of a text.
 abbrev pub IsScriptTextFault : List ℕ → TextFault → Type 0
@@ -64,7 +69,8 @@ abbrev pub script_token_place : List ScriptToken → ℕ → ℕ
 script_token_place xs k = (slice_index_or xs k (plain_token 0 kinds.Word 0)).place
 
 -- what is answered of tokens, if the text has so many bytes and its tokens stop so
-abbrev pub script_outcome : ℕ → Option (ℕ × TextKind) → List ScriptToken → Result (List Step) ℕ → Result Script TextFault
+abbrev pub script_outcome : ℕ → Option (ℕ × TextKind) → List ScriptToken → Result (List Step) ℕ
+    → Result Script TextFault
 script_outcome end stop xs (Err zero) = Err (stop_fault end stop)
 script_outcome end stop xs (Err (suc left)) = Err (At (script_token_place xs (length xs - suc left)) Expected)
 script_outcome end (Some p) xs (Ok s) = Err (At p.0 p.1)
@@ -76,7 +82,8 @@ script_of_tokens end stop xs = script_outcome end stop xs (whole (script_reader 
 
 -- what is answered of a text
 abbrev pub script_of_text : List ℕ → Result Script TextFault
-script_of_text text = script_of_tokens (length text) (script_fault_in (script_scan_of text).stop) (judged_script_tokens text)
+script_of_text text =
+    script_of_tokens (length text) (script_fault_in (script_scan_of text).stop) (judged_script_tokens text)
 
 -- a fault that is told is the text's first, unless memory ran out
 abbrev pub IsScriptFaultOrMemory : List ℕ → TextFault → Type 0

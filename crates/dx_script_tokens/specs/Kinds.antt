@@ -11,7 +11,10 @@ same_text w v = pointwise nat_eq w v
 
 -- the kind of words that a letter and a number make
 abbrev pub letter_kind : ℕ → ScriptKind
-letter_kind b = if b == 109 then kinds.Match else (if b == 107 then kinds.Keep else (if b == 97 then kinds.Alias else (if b == 99 then kinds.Column else kinds.Word)))
+letter_kind b =
+    if b == 109 then kinds.Match
+    else (if b == 107 then kinds.Keep
+    else (if b == 97 then kinds.Alias else (if b == 99 then kinds.Column else kinds.Word)))
 
 -- a letter and a number, or any other word
 abbrev pub with_letter : ℕ → Option ℕ → ScriptKind × ℕ

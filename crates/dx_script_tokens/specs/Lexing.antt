@@ -50,7 +50,8 @@ IsScriptTokenText Mark w = IsScriptMark w
 -- no front of what is left is a longer token
 abbrev pub IsLongestScriptToken : List ℕ → List ℕ → Type 0
 IsLongestScriptToken w left =
-    (shape : Shape) (longer rest : List ℕ) → IsScriptTokenText shape longer → left ≡ longer ++ rest → length longer ≤ length w
+    (shape : Shape) (longer rest : List ℕ) → IsScriptTokenText shape longer → left ≡ longer ++ rest
+    → length longer ≤ length w
 
 -- after a text no single quote stands, since two of them are one that is doubled
 abbrev pub EndsText : Shape → List ℕ → Type 0
@@ -63,13 +64,16 @@ pub record Span : Type 0 where
   pub end : ℕ
   pub shape : Shape
 
--- From a place on, blanks and tokens stand one after the other, each token as long as it can be, up to what is after them.
+-- From a place on, blanks and tokens stand one after the other, each token as long as it can be,
+-- up to what is after them.
 pub data LexesScript : ℕ → List ℕ → List Span → List ℕ → Type 0 where
   nothing : {place : ℕ} {behind : List ℕ} → LexesScript place behind [] behind
   blank : {place : ℕ} {left rest behind : List ℕ} {tokens : List Span} (b : ℕ) → IsTrue (is_blank b) → left ≡ b ∷ rest
       → LexesScript (place + 1) rest tokens behind → LexesScript place left tokens behind
-  token : {place : ℕ} {left rest behind : List ℕ} {tokens : List Span} (shape : Shape) (w : List ℕ) → IsScriptTokenText shape w
-      → IsLongestScriptToken w left → EndsText shape rest → left ≡ w ++ rest → LexesScript (place + length w) rest tokens behind
+  token : {place : ℕ} {left rest behind : List ℕ} {tokens : List Span} (shape : Shape) (w : List ℕ)
+      → IsScriptTokenText shape w
+      → IsLongestScriptToken w left → EndsText shape rest → left ≡ w ++ rest
+      → LexesScript (place + length w) rest tokens behind
       → LexesScript place left (record { start = place; end = place + length w; shape = shape } ∷ tokens) behind
 
 -- the tokens of a text
@@ -135,17 +139,21 @@ script_begun_of place (b ∷ rest) = begun_at place b
 -- a text has tokens, or a first fault
 abbrev pub IsScriptTokensOrFault : List ℕ → Type 0
 IsScriptTokensOrFault text =
-    ((tokens : List Span) × AreScriptTokens text tokens) ⊎ ((place : ℕ) × (kind : TextKind) × IsFirstScriptFault text place kind)
+    ((tokens : List Span) × AreScriptTokens text tokens)
+    ⊎ ((place : ℕ) × (kind : TextKind) × IsFirstScriptFault text place kind)
 
 -- the scan of a text that has tokens gives them and no stop
 abbrev pub ScriptTokensAreScanned : List ℕ → Type 0
 ScriptTokensAreScanned text =
-    (tokens : List Span) → AreScriptTokens text tokens → script_scan_of text ≡ record { tokens = map (token_said text) tokens; stop = None }
+    (tokens : List Span) → AreScriptTokens text tokens
+    → script_scan_of text ≡ record { tokens = map (token_said text) tokens; stop = None }
 
--- the scan of a text with a fault after some tokens gives these tokens, and stops at that fault with what is begun there
+-- the scan of a text with a fault after some tokens gives these tokens,
+-- and stops at that fault with what is begun there
 abbrev pub ScriptFaultIsScanned : List ℕ → Type 0
 ScriptFaultIsScanned text =
-    (tokens : List Span) (behind : List ℕ) (place offset : ℕ) (kind : TextKind) → LexesScript 0 text tokens behind → place + length behind ≡ length text
+    (tokens : List Span) (behind : List ℕ) (place offset : ℕ) (kind : TextKind)
+    → LexesScript 0 text tokens behind → place + length behind ≡ length text
     → BeginsScriptFault behind offset kind
     → script_scan_of text ≡ record {
       tokens = map (token_said text) tokens;

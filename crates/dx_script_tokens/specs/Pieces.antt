@@ -19,7 +19,9 @@ name_end n (c ∷ rest) = if c == 34 then pieces.Token Name (n + 1) else pieces.
 -- a name after its first quotation mark: one character at least, and the first may be #
 abbrev pub name_at : List ℕ → Piece
 name_at [] = pieces.Cut
-name_at (c ∷ rest) = if c == 35 || is_word_byte c then name_end (2 + run is_word_byte rest) (drop (run is_word_byte rest) rest) else pieces.Fault 1
+name_at (c ∷ rest) =
+    if c == 35 || is_word_byte c
+    then name_end (2 + run is_word_byte rest) (drop (run is_word_byte rest) rest) else pieces.Fault 1
 
 -- ---- texts in single quotes
 

@@ -1,5 +1,6 @@
 -- The tokens of a script's text, up to the first fault.
-use Rattle.std.specs.Prelude.{ℕ, zero, suc, ◌+◌, ◌-◌, ◌==◌, if◌then◌else◌, List, [], ◌∷◌, ◌++◌, length, take, Option, Some, None, IsUtf8}
+use Rattle.std.specs.Prelude.{ℕ, zero, suc, ◌+◌, ◌-◌, ◌==◌, if◌then◌else◌, List, []}
+use Rattle.std.specs.Prelude.{◌∷◌, ◌++◌, length, take, Option, Some, None, IsUtf8}
 use Rattle.dx_tokens.specs.declared.faults.TextKind.{TextKind}
 use Rattle.dx_tokens.specs.declared.faults.TextKind.TheVariants.{Character, Ended}
 use Rattle.dx_script_tokens.specs.declared.kinds.ScriptKind.{ScriptKind}
@@ -66,7 +67,9 @@ SaysUtf8 Mark w = Unit {0}
 
 -- a token that is faulty or cut is a name if it begins with a double quote, a text if it begins with a single one
 abbrev pub begun_at : ℕ → ℕ → Option ScriptToken
-begun_at place b = if b == 34 then Some (plain_token place kinds.Name 0) else (if b == 39 then Some (plain_token place kinds.Text 0) else None)
+begun_at place b =
+    if b == 34 then Some (plain_token place kinds.Name 0)
+    else (if b == 39 then Some (plain_token place kinds.Text 0) else None)
 
 -- the fault of a kind at a place, in what begins with byte b at the first place
 abbrev pub stop_at : ℕ → ℕ → TextKind → ℕ → ScriptStop
@@ -87,7 +90,8 @@ with_token x s = record { tokens = x ∷ s.tokens; stop = s.stop }
 -- what stands next at a place, if the first of the bytes is b
 abbrev pub script_scan_step : Piece → ℕ → ℕ → List ℕ → (ℕ → ScriptScan) → ScriptScan
 script_scan_step pieces.Blank place b rest next = next 0
-script_scan_step (pieces.Token shape len) place b rest next = with_token (token_of place shape (take len (b ∷ rest))) (next (len - 1))
+script_scan_step (pieces.Token shape len) place b rest next =
+    with_token (token_of place shape (take len (b ∷ rest))) (next (len - 1))
 script_scan_step (pieces.Fault offset) place b rest next = script_stopped (stop_at place (place + offset) Character b)
 script_scan_step pieces.Cut place b rest next = script_stopped (stop_at place (place + 1 + length rest) Ended b)
 
@@ -95,7 +99,8 @@ script_scan_step pieces.Cut place b rest next = script_stopped (stop_at place (p
 unfoldable pub script_scan_from : ℕ → ℕ → List ℕ → ScriptScan
 script_scan_from left place [] = record { tokens = []; stop = None }
 script_scan_from (suc left) place (b ∷ rest) = script_scan_from left (place + 1) rest
-script_scan_from zero place (b ∷ rest) = script_scan_step (script_piece_at b rest) place b rest (λ left. script_scan_from left (place + 1) rest)
+script_scan_from zero place (b ∷ rest) =
+    script_scan_step (script_piece_at b rest) place b rest (λ left. script_scan_from left (place + 1) rest)
 
 -- the tokens of a text up to its first fault, and that fault
 abbrev pub script_scan_of : List ℕ → ScriptScan

@@ -14,7 +14,8 @@ use Rattle.dx_script.specs.Generated.{Spot, first_spot, shows}
 abbrev pub firsts_of : List Spot → Rule → List CellRef
 firsts_of all d = map (λ y. shows (first_spot y all)) (below (premise_variables d))
 
--- what a call that is selected asks: the conversion of its derived variable is listed, and takes variables below a number
+-- what a call that is selected asks: the conversion of its derived variable is listed,
+-- and takes variables below a number
 pub record IsSelectable (list : List Conversion) (variables : ℕ) (e : Derived) : Type 0 where
   pub listed : IsListed list e.code (length e.args)
   pub within : Each e.args (λ y. y < variables)

@@ -39,4 +39,5 @@ keeps_by parts = flat_map (λ r. keep_step r (parts_in parts r)) (below (length 
 
 -- the insert steps of all rules, of each from its keep table if it is told to have one
 abbrev pub inserts_by : List TableNames → List Bool → List Rule → List Step
-inserts_by target kept R = flat_map (λ r. inserts_of target (slice_index_or kept r false) r (rule_at R r)) (below (length R))
+inserts_by target kept R =
+    flat_map (λ r. inserts_of target (slice_index_or kept r false) r (rule_at R r)) (below (length R))

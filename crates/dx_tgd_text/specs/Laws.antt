@@ -33,14 +33,19 @@ AreOffered list d = Each d.derived (λ e. IsListed list e.code (length e.args))
 -- the rule of a text without a fault fits the schemas
 abbrev pub ReadRulesFit : Type 0
 ReadRulesFit =
-    (source target : Forest) (list : List Conversion) (r : RuleText) → IsWholeRule r → RuleHasFewCells r → rule_fault source target list r ≡ None
+    (source target : Forest) (list : List Conversion) (r : RuleText) → IsWholeRule r → RuleHasFewCells r
+    → rule_fault source target list r ≡ None
     → RuleFits (model_tables source) (model_tables target) (rule_of_text source target list r)
 
 -- and its conversions are listed
 abbrev pub ReadRulesAreOffered : Type 0
 ReadRulesAreOffered =
-    (source target : Forest) (list : List Conversion) (r : RuleText) → rule_fault source target list r ≡ None → AreOffered list (rule_of_text source target list r)
+    (source target : Forest) (list : List Conversion) (r : RuleText)
+    → rule_fault source target list r ≡ None → AreOffered list (rule_of_text source target list r)
 
--- the rules of a mapping text are as the grammar has them, with no more cells and derived variables than the text has bytes
+-- the rules of a mapping text are as the grammar has them,
+-- with no more cells and derived variables than the text has bytes
 abbrev pub TextsHaveWholeRules : Type 0
-TextsHaveWholeRules = (text : List ℕ) (m : MappingText) → IsMappingText text m → Each m.rules (λ r. IsWholeRule r × (size_of r ≤ length text))
+TextsHaveWholeRules =
+    (text : List ℕ) (m : MappingText) → IsMappingText text m
+    → Each m.rules (λ r. IsWholeRule r × (size_of r ≤ length text))

@@ -46,7 +46,9 @@ fresh_of r = unknown_names (known_of r) r.conclusion
 -- of an atom its set is looked at, then how many cells it has
 abbrev pub atom_fault : Forest → AtomText → Option TextFault
 atom_fault f a =
-    cond (is_among a.set (set_names f)) (cond (eqb (length a.cells) (length (columns_in f a.set))) None (Some (At a.place Width))) (Some (At a.place UnknownName))
+    cond (is_among a.set (set_names f))
+    (cond (eqb (length a.cells) (length (columns_in f a.set))) None (Some (At a.place Width)))
+    (Some (At a.place UnknownName))
 
 -- the first fault of atoms, from left to right
 abbrev pub atoms_fault : Forest → List AtomText → Option TextFault
@@ -64,7 +66,8 @@ args_fault variables call args = first_of (map (arg_fault variables call) args)
 -- of a conversion its name is looked at, then how many arguments it takes, then its arguments
 abbrev pub derived_call_fault : List Text → Option Conversion → ℕ → List CellText → Option TextFault
 derived_call_fault variables None place args = Some (At place UnknownName)
-derived_call_fault variables (Some c) place args = cond (eqb c.arity (length args)) (args_fault variables place args) (Some (At place Width))
+derived_call_fault variables (Some c) place args =
+    cond (eqb c.arity (length args)) (args_fault variables place args) (Some (At place Width))
 
 -- the first fault of a derived variable's conversion
 abbrev pub conversion_fault : List Conversion → List Text → DerivedText → Option TextFault
@@ -73,7 +76,8 @@ conversion_fault list variables d = derived_call_fault variables (first_named li
 -- of a derived variable its name is looked at, which is none of those known so far, then its conversion
 abbrev pub derived_fault : List Conversion → List Text → List Text → DerivedText → Option TextFault
 derived_fault list variables known d =
-    cond (is_among d.name known) (Some (At d.place Unsafe)) (derived_call_fault variables (first_named list d.call) d.call_place d.args)
+    cond (is_among d.name known) (Some (At d.place Unsafe))
+    (derived_call_fault variables (first_named list d.call) d.call_place d.args)
 
 -- the first fault of derived variables, each of which is known to those after it
 abbrev pub derived_faults : List Conversion → List Text → List Text → List DerivedText → Option TextFault
@@ -84,7 +88,9 @@ derived_faults list variables known (d ∷ ds) =
 -- of a rule its premise is looked at, then its derived variables, then its conclusion
 abbrev pub rule_fault : Forest → Forest → List Conversion → RuleText → Option TextFault
 rule_fault source target list r =
-    first_of (atoms_fault source r.premise ∷ derived_faults list (names_of_premise r) (names_of_premise r) r.derived ∷ atoms_fault target r.conclusion ∷ [])
+    first_of (atoms_fault source r.premise
+    ∷ derived_faults list (names_of_premise r) (names_of_premise r) r.derived
+    ∷ atoms_fault target r.conclusion ∷ [])
 
 -- the first fault of rules, in their order
 abbrev pub rules_fault : Forest → Forest → List Conversion → List RuleText → Option TextFault
@@ -94,7 +100,8 @@ rules_fault source target list rules = first_of (map (rule_fault source target l
 
 -- a cell: a known name is a variable, another name is an existential variable, a literal is itself
 abbrev pub cell_of : List Text → List Text → CellText → Cell
-cell_of known fresh (Name x place) = cond (is_among x known) (Var (number_of_name x known)) (Ex (number_of_name x fresh))
+cell_of known fresh (Name x place) =
+    cond (is_among x known) (Var (number_of_name x known)) (Ex (number_of_name x fresh))
 cell_of known fresh (Literal t) = Lit t
 
 -- an atom: the table of its set, and its cells
@@ -112,7 +119,8 @@ arg_of variables (Literal t) = 0
 
 -- a derived variable: the code of its conversion, and the variables of which it is made
 abbrev pub derived_of_text : List Conversion → List Text → DerivedText → Derived
-derived_of_text list variables d = record { code = code_of (first_named list d.call); args = map (arg_of variables) d.args }
+derived_of_text list variables d =
+    record { code = code_of (first_named list d.call); args = map (arg_of variables) d.args }
 
 -- a rule, by the numbers of what it names
 abbrev pub rule_of_text : Forest → Forest → List Conversion → RuleText → Rule

@@ -5,7 +5,8 @@ use Rattle.dx_tokens.specs.declared.faults.TextFault.TheVariants.{At, TooDeep, M
 use Rattle.dx_tokens.specs.declared.faults.TextKind.{TextKind}
 use Rattle.dx_tokens.specs.declared.faults.TextKind.TheVariants.{Character, Expected, Ended}
 
--- The text is at fault so: a token can't stand, or could if sets might be nested one level deeper, or the text stops after all tokens.
+-- The text is at fault so: a token can't stand, or could if sets might be nested one level deeper,
+-- or the text stops after all tokens.
 abbrev pub IsFaultBy : (ℕ → Type 0) → (ℕ → Type 0) → (ℕ → TextKind → Type 0) → TextFault → Type 0
 IsFaultBy Unexpected Deeper Stopped (At place Expected) = Unexpected place
 IsFaultBy Unexpected Deeper Stopped (At place Character) = Stopped place Character

@@ -34,10 +34,12 @@ SameSolutions =
 abbrev pub SameUniversal : Type 0
 SameUniversal =
     (convert : Conversions) (used : Marks) (R : List Rule) (schema : List Table) (I J K : List Fact)
-    → Each R (UsesOnly used) → AgreeOnUsed used I J → IsUniversal convert R schema I K → IsUniversal convert R schema J K
+    → Each R (UsesOnly used) → AgreeOnUsed used I J → IsUniversal convert R schema I K
+    → IsUniversal convert R schema J K
 
 -- of instances that agree the rows that pass agree, if the columns that the conditions name are read
 abbrev pub SamePassing : Type 0
 SamePassing =
     (passes : Passes) (used : Marks) (conditions : List Condition) (I J : List Fact)
-    → ReadNamed used conditions → AgreeOnUsed used I J → AgreeOnUsed used (passing passes conditions I) (passing passes conditions J)
+    → ReadNamed used conditions → AgreeOnUsed used I J
+    → AgreeOnUsed used (passing passes conditions I) (passing passes conditions J)

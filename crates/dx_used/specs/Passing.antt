@@ -18,7 +18,8 @@ value_passes passes code (Some (Null n)) = false
 
 -- whether a fact passes a condition: one on a column of another table asks nothing of it
 abbrev pub fact_passes : Passes → Fact → Condition → Bool
-fact_passes passes f c = if f.table == c.place.table then value_passes passes c.code (slice_get f.row c.place.column) else true
+fact_passes passes f c =
+    if f.table == c.place.table then value_passes passes c.code (slice_get f.row c.place.column) else true
 
 -- the facts that pass each of the conditions
 abbrev pub passing : Passes → List Condition → List Fact → List Fact

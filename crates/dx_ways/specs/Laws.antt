@@ -28,7 +28,8 @@ TermBy f (Converted code args) t = t ≡ Call code (map (seen_at f) args)
 abbrev pub ChoosesOf : List Occurrence → (ℕ → Occurrence) → Place → Type 0
 ChoosesOf P f a = (f a.table ∈ P) × ((f a.table).table ≡ a.table)
 
--- a line has its target column at an occurrence of Q with the pick's variable, and gives the pick's term by a choice among P
+-- a line has its target column at an occurrence of Q with the pick's variable,
+-- and gives the pick's term by a choice among P
 pub record IsWay (lines : List Line) (P Q : List Occurrence) (k : Pick) : Type 0 where
   pub line : Line
   pub is_line : line ∈ lines

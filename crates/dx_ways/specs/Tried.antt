@@ -1,5 +1,6 @@
 -- What is tried to find the ways of a line: each choice among occurrences that are unlike each other.
-use Rattle.std.specs.Prelude.{ℕ, ◌<◌, Bool, not, cond, ◌&&◌, ◌||◌, eqb, Option, Some, None, List, [], ◌∷◌, ◌++◌, length, map, flat_map}
+use Rattle.std.specs.Prelude.{ℕ, ◌<◌, Bool, not, cond, ◌&&◌, ◌||◌, eqb, Option, Some}
+use Rattle.std.specs.Prelude.{None, List, [], ◌∷◌, ◌++◌, length, map, flat_map}
 use Rattle.std.specs.List.{filter, list_any, list_all}
 use Rattle.dx_base.specs.declared.limits.TheConstants.{WAYS}
 use Rattle.dx_logical.specs.declared.relation.Occurrence.{Occurrence}
