@@ -1,5 +1,6 @@
 -- What each variable can still become.
-use Rattle.std.specs.Prelude.{◌≡◌, ℕ, ◌<◌, ◌^◌, ◌++◌, ◌≤◌, Option, None, Some, MatchOption, Bool, false, List, [], length, slice_index_or}
+use Rattle.std.specs.Prelude.{◌≡◌, ℕ, ◌<◌, ◌^◌, ◌++◌, ◌≤◌, Option, None, Some, MatchOption}
+use Rattle.std.specs.Prelude.{Bool, false, List, [], length, slice_index_or}
 use Rattle.std.specs.List.{sum_by}
 use Rattle.dx_base.specs.Members.{Each, ◌∈◌}
 use Rattle.dx_instance.specs.Cells.{NumberTable, numbers_at}
@@ -64,7 +65,8 @@ pub record IsLeftNumber (known : Option ℕ) (d : Domain) (x : ℕ) : Type 0 whe
   pub left : (n : ℕ) → known ≡ None → DomainHas d n → domain_size (2 ^ 32) d ≤ 1 → x ≡ n
 
 -- the row at a place is not taken out, and is what the atom becomes
-pub record IsImageRow (tables : List NumberTable) (out : List (List Bool)) (a : ℕ → ℕ) (atom : PatternAtom) (p : ℕ) : Type 0 where
+pub record IsImageRow (tables : List NumberTable) (out : List (List Bool)) (a : ℕ → ℕ)
+    (atom : PatternAtom) (p : ℕ) : Type 0 where
   pub place : p < length (numbers_of_table tables atom.table).rows
   pub kept : is_out out atom.table p ≡ false
   pub row : numbers_at (numbers_of_table tables atom.table).rows p ≡ row_under a atom

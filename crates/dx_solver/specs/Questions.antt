@@ -24,7 +24,8 @@ HasImageRow tables out a atom =
     × (numbers_at (numbers_of_table tables atom.table).rows p ≡ row_under a atom)
 
 -- each atom becomes such a row, and each variable that is known has its number
-pub record Solves (tables : List NumberTable) (out : List (List Bool)) (atoms : List PatternAtom) (known : List (Option ℕ)) (a : ℕ → ℕ)
+pub record Solves (tables : List NumberTable) (out : List (List Bool)) (atoms : List PatternAtom)
+    (known : List (Option ℕ)) (a : ℕ → ℕ)
     : Type 0 where
   pub stands : Each atoms (HasImageRow tables out a)
   pub keeps : (v n : ℕ) → slice_index_or known v None ≡ Some n → a v ≡ n

@@ -28,7 +28,8 @@ pub record RulesFitWidths (list : List Conversion) (source target : List ℕ) (R
   pub few : length R < 2 ^ 32 - 1
 
 -- the rows of each rule stand for its tuples, whose canonical cells are few; the conclusions fit tables of these widths
-pub record HaveRowsToBuild (widths : List ℕ) (R : List Rule) (symbols : List Value) (tables : List NumberTable) : Type 0 where
+pub record HaveRowsToBuild (widths : List ℕ) (R : List Rule) (symbols : List Value)
+    (tables : List NumberTable) : Type 0 where
   pub some : Each widths (λ w. 1 ≤ w)
   pub few : length widths < 2 ^ 32 - 1
   pub rules : length R < 2 ^ 32 - 1

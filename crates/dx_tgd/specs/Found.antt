@@ -42,4 +42,5 @@ pub record MoreCells (convert : Conversions) (R : List Rule) (I : List Fact) (li
 -- the limit is refused if the rules' rows make more canonical cells; for want of memory there is no reason
 abbrev pub IsCanonicalRefusal : Conversions → List Rule → List Fact → ℕ → CanonFault → Type 0
 IsCanonicalRefusal convert R I limit Memory = Unit {0}
-IsCanonicalRefusal convert R I limit (Limit l) = (l ≡ record { what = TargetCells; number = limit }) × MoreCells convert R I limit
+IsCanonicalRefusal convert R I limit (Limit l) =
+    (l ≡ record { what = TargetCells; number = limit }) × MoreCells convert R I limit

@@ -39,4 +39,6 @@ pub record NamesPlace (R : List Rule) (rows : Rows) (n : NullId) : Type 0 where
 
 -- each null of the canonical instance names a rule and a place that are there
 abbrev pub NullsHavePlaces : Type 0
-NullsHavePlaces = (R : List Rule) (rows : Rows) (f : Fact) (n : NullId) → f ∈ canonical 0 R rows → Null n ∈ f.row → NamesPlace R rows n
+NullsHavePlaces =
+    (R : List Rule) (rows : Rows) (f : Fact) (n : NullId) → f ∈ canonical 0 R rows → Null n ∈ f.row
+    → NamesPlace R rows n

@@ -36,7 +36,8 @@ HasNumber row place (Nulls ns) = place < length ns.items
 
 -- the fact that a planned atom says of a row at a place
 abbrev pub planned_fact : List Value → List ℕ → ℕ → PlannedAtom → Fact
-planned_fact symbols row place p = record { table = p.table; row = shown_row symbols (map (planned_number row place) p.cells.items) }
+planned_fact symbols row place p =
+    record { table = p.table; row = shown_row symbols (map (planned_number row place) p.cells.items) }
 
 -- the atom is of a table with as many columns as it has cells, each with a number below n
 pub record CanStand (widths : List ℕ) (n : ℕ) (row : List ℕ) (place : ℕ) (p : PlannedAtom) : Type 0 where
@@ -72,6 +73,7 @@ IsCellPlan symbols rule variables places (Nulls ns) (Ex v) = AreNullNumbers symb
 IsCellPlan symbols rule variables places (Nulls ns) (Lit t) = ⊥
 
 -- the plan of an atom
-pub record IsPlannedAtom (symbols : List Value) (rule : ℕ) (variables : List ℕ) (places : ℕ) (p : PlannedAtom) (a : Atom) : Type 0 where
+pub record IsPlannedAtom (symbols : List Value) (rule : ℕ) (variables : List ℕ) (places : ℕ)
+    (p : PlannedAtom) (a : Atom) : Type 0 where
   pub table : p.table ≡ a.table
   pub cells : AllZip (IsCellPlan symbols rule variables places) p.cells.items a.cells
