@@ -255,6 +255,25 @@ class OnPostgres(Hostile):
                     before = self.rows()
                     self.assertEqual(len(before), 1)
 
+    def test_many_rows(self) -> None:
+        """A load takes no step for each pair of rows, though the server knows nothing of the table yet."""
+        self.session.run("CREATE TABLE t (id int PRIMARY KEY, x text) WITH (autovacuum_enabled = false)")
+        words = ["postgres", f"{PLACE[0]} options='-c statement_timeout=10s'"]
+        for text, count in ("a", "30000 inserted"), ("a", "30000 equal"), ("b", "30000 changed"), ("", "30000 deleted"):
+            self.source("id,x", "".join(f"{number},{text}\n" for number in range(30000)) if text else "")
+            self.assertIn(count, self.printed("clio-load", *words, "--delete"))
+
+    def test_full(self) -> None:
+        """What the server says of a full disk is passed on, and nothing is changed."""
+        self.session.run("CREATE FUNCTION f() RETURNS trigger LANGUAGE plpgsql AS $$ BEGIN RAISE disk_full USING"
+                         " MESSAGE = 'could not extend file'; END $$; CREATE TABLE t (id int PRIMARY KEY, x text);"
+                         "CREATE TRIGGER g BEFORE INSERT ON t FOR EACH ROW WHEN (new.x = 'last') EXECUTE FUNCTION f()")
+        self.source("id,x", "1,a\n2,last\n")
+        for count in range(2):
+            self.refused("clio-load", *self.words, why="PostgreSQL: could not extend file; nothing is changed")
+            self.assertEqual(self.rows("SELECT id FROM t"), [("7",)] * count)
+            self.session.run("INSERT INTO t VALUES (7, 'mine') ON CONFLICT DO NOTHING")
+
     def test_inheritance(self) -> None:
         """A row of a table that inherits is not deleted for one that a load wrote."""
         self.session.run("CREATE TABLE t (id int PRIMARY KEY, x text); CREATE TABLE kid () INHERITS (t)")

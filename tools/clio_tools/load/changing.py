@@ -48,6 +48,8 @@ class Change:
                 self.check_written(plan, self.database.run(self.mark(plan)), counts.marked)
         for plan in self.plan.tables:
             self.keep_record(plan)
+        if self.record.sql is not None and any(counts.is_written for counts in self.comparison.counts.values()):
+            self.database.look_at(self.record.sql)
 
     def fill_directly(self, plan: TablePlan) -> None:
         """Puts a file into an empty table; only then it is known how many rows there are."""
@@ -126,8 +128,8 @@ class Change:
             equal = " AND ".join(f"t.{identifier(name)} = n.c{place}" for name, place in zip(names, places))
             other = " OR ".join(f"t.{identifier(plan.loaded[place].name)} <> n.c{place}" for place in plan.key)
             held = f"SELECT 1 FROM {plan.work('diff')} AS n WHERE {equal} AND ({other})"
-            if self.database.value(f"SELECT 1 FROM {plan.table.sql} AS t JOIN {plan.work('diff')} AS n ON {equal} "
-                                   f"WHERE {other} LIMIT 1") is None:
+            if not self.database.first(f"SELECT 1 FROM {plan.table.sql} AS t JOIN {plan.work('diff')} AS n ON {equal} "
+                                       f"WHERE {other}"):
                 continue
             column, value = self.free_value(plan, names)
             goes = self.changes(plan)

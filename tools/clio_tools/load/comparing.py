@@ -71,6 +71,7 @@ class Comparison:
         else:
             self.check_pairs(plan, plan.key)
         run(self.diff(plan))
+        self.database.look_at(plan.work("diff"))
         counts.inserted = self.database.count(f"SELECT count(*) FROM {plan.work('diff')} WHERE is_new = 1")
         counts.changed = self.database.count(f"SELECT count(*) FROM {plan.work('diff')} WHERE is_new = 0")
         if counts.changed:
@@ -78,6 +79,7 @@ class Comparison:
             counts.columns = self.changed_columns(plan)
         if self.has_extra(plan):
             run(self.extra(plan))
+            self.database.look_at(plan.work("extra"))
         else:
             run(f"{self.extra(plan)} LIMIT 0")
         self.check_own(plan)
@@ -104,11 +106,10 @@ class Comparison:
                              for place, column in zip(key, columns)):
             return
         cells = ", ".join(f"t.{identifier(column.name)}" for column in columns)
-        found = next(iter(self.database.rows(f"SELECT {cells} FROM {plan.work('new')} AS n JOIN {plan.table.sql} AS t"
-                                             f" ON {self.match(plan, 't', 'n')} GROUP BY {cells} HAVING count(*) > 1"
-                                             f" LIMIT 1")), None)
+        found = self.database.first(f"SELECT {cells} FROM {plan.work('new')} AS n JOIN {plan.table.sql} AS t"
+                                    f" ON {self.match(plan, 't', 'n')} GROUP BY {cells} HAVING count(*) > 1")
         if found:
-            which = f"the key ({', '.join(plan.key_names())}) {', '.join(shown(str(cell)) for cell in found)}"
+            which = f"the key ({', '.join(plan.key_names())}) {', '.join(shown(str(cell)) for cell in found[0])}"
             raise Refused(f"{which} belongs to several rows of out/{plan.set.name}.csv or of table"
                           f" {shown(plan.table.name)} in the database: name another key by --key, or change the"
                           f" rows; nothing is changed")
@@ -118,12 +119,12 @@ class Comparison:
         which of them that is."""
         if plan.key is None or self.gone == KEEP or plan.key_names() in plan.table.keys and not plan.table.is_shared:
             return
-        found = self.database.value(f"SELECT m FROM {plan.work('extra')} WHERE is_own = 1 GROUP BY m"
-                                    " HAVING count(*) > 1 LIMIT 1")
-        if found is not None:
+        found = self.database.first(f"SELECT m FROM {plan.work('extra')} WHERE is_own = 1 GROUP BY m"
+                                    " HAVING count(*) > 1")
+        if found:
             raise Refused(f"table {shown(plan.table.name)} has several rows with the key"
-                          f" ({', '.join(plan.key_names())}) {shown(found)}, and a load wrote one of them: name"
-                          " another key by --key, or change the rows; nothing is changed")
+                          f" ({', '.join(plan.key_names())}) {shown(str(found[0][0]))}, and a load wrote one of them:"
+                          " name another key by --key, or change the rows; nothing is changed")
 
     def has_extra(self, plan: TablePlan) -> bool:
         """Whether the table has rows that the target lacks."""
@@ -155,13 +156,12 @@ class Comparison:
     def check_different(self, plan: TablePlan, key: list[int], source: str) -> None:
         """Refuses rows of a work table that are one by the key."""
         cells = ", ".join(f"c{place}" for place in key)
-        found = next(iter(self.database.rows(f"SELECT {cells} FROM {source} GROUP BY {cells} HAVING count(*) "
-                                             f"> 1 LIMIT 1")), None)
+        found = self.database.first(f"SELECT {cells} FROM {source} GROUP BY {cells} HAVING count(*) > 1")
         if found:
             names = ", ".join(plan.key_names())
             raise Refused(f"two rows of out/{plan.set.name}.csv have the same key ({names}) in the database: "
-                          f"{', '.join(shown(str(cell)) for cell in found)}: name another key by --key, or change the "
-                          f"type of a column")
+                          f"{', '.join(shown(str(cell)) for cell in found[0])}: name another key by --key, or change "
+                          f"the type of a column")
 
     def match(self, plan: TablePlan, row: str, new: str) -> str:
         """The condition that a row of the table is one of the target."""

@@ -109,6 +109,10 @@ class Database(abc.ABC):
         """Makes the work table `new` of the file that was read: values of the table's types."""
 
     @abc.abstractmethod
+    def look_at(self, table: str) -> None:
+        """Has the database see how many rows a table of the tool's own has, for its plans."""
+
+    @abc.abstractmethod
     def key_text(self, cells: list[str]) -> str:
         """A text of SQL for values, NULL too; different values have different ones."""
 
@@ -152,6 +156,11 @@ class Database(abc.ABC):
     def value(self, sql: str) -> str | None:
         """The first cell of the first row of a query."""
         return next(iter(self.rows(sql)), (None,))[0]
+
+    def first(self, sql: str, most: int = 1) -> list[Cells]:
+        """The first rows of a query. It is planned as for all of them: PostgreSQL takes a join that is right for some
+        rows at the beginning as one that tries all pairs, and there may be none."""
+        return self.rows(f"WITH found AS MATERIALIZED ({sql}) SELECT * FROM found LIMIT {most}")
 
     def count(self, sql: str) -> int:
         """The number that a query gives."""

@@ -22,6 +22,7 @@ from clio_tools.safe_files import digest_of_file
 
 LOG = ", ".join(f"{name} TEXT NOT NULL" for name in ("loaded_at", "load", "mapping", "sources", "options", "counts"))
 DOES_NOT_FIT = "22", "23"  # classes of SQLSTATE: a value that is none of a type; a constraint
+UNREACHED = "", "08", "57"  # and those of a server that is gone, so that it isn't known whether all was kept
 
 
 class Load:
@@ -45,9 +46,12 @@ class Load:
         except DoesNotFit as why:
             raise self.explained(str(why)) from None
         except DatabaseError as error:
-            if (error.sqlstate or "")[:2] not in DOES_NOT_FIT:
+            kind = (error.sqlstate or "")[:2]
+            if kind in DOES_NOT_FIT:
+                raise self.explained(error.cause) from None
+            if kind in UNREACHED:
                 raise
-            raise self.explained(error.cause) from None
+            raise Refused(f"{error.cause}; nothing is changed") from None
         for plan in self.plan.tables:
             print(harmless(said_of(plan, comparison.counts[plan.number], self.is_dry)))
             if self.is_dry:
@@ -199,7 +203,7 @@ class Load:
                 continue
             keys = comparison.changed_of_others(plan, test)
             found += self.database.count(f"SELECT count(*) FROM ({keys}) AS k")
-            for row in self.database.rows(f"{keys} LIMIT {SAMPLES}"):
+            for row in self.database.first(keys, SAMPLES):
                 remark("clio-load", f"{shown_name(plan.table.name)} {shown(str(row[0]))} would be changed, and no load "
                                     f"wrote that row")
         if found:

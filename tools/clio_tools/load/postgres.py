@@ -68,6 +68,7 @@ TRIAL = "DECLARE made {0}; BEGIN made := cell; RETURN true; EXCEPTION WHEN other
 TRY = "CREATE OR REPLACE FUNCTION pg_temp.clio_fits(cell text) RETURNS boolean LANGUAGE plpgsql AS {0}"
 EXACT = re.compile(r"text|character varying(\(\d+\))?")  # types of which texts that differ are other values
 NO_RIGHT = "42501"
+NO_VALUE = "22"  # the class of texts that are none of a form or type
 LOCKED = "55P03", "40P01"
 
 
@@ -164,6 +165,8 @@ class Postgres(Database):
             try:
                 return self.session.copy_in(plan.work("raw"), pieces, f"FORMAT csv, HEADER, FORCE_NOT_NULL ({names})")
             except DatabaseError as error:
+                if (error.sqlstate or "")[:2] != NO_VALUE:
+                    raise
                 raise Refused(f"out/{path.name} is not as clio writes it: {error.cause}") from None
 
     def watched(self, plan: TablePlan, pieces: Iterable[bytes]) -> Iterator[bytes]:
@@ -222,7 +225,7 @@ class Postgres(Database):
         self.run(f"CREATE TEMP TABLE {plan.work('new')} ({columns})")
         self.run(f"INSERT INTO {plan.work('new')} SELECT {', '.join(f'({cell})' for cell in cells)} FROM "
                  f"{plan.work('raw')}")
-        self.run(f"ANALYZE {plan.work('new')}")
+        self.look_at(plan.work("new"))
 
     def may_misfit(self, plan: TablePlan, options: Options) -> bool:
         return False  # a value that doesn't fit stops the statement that makes it
@@ -245,6 +248,9 @@ class Postgres(Database):
                 rows = self.rows(f"SELECT record, c{place} FROM {numbered} AS n WHERE {fits}")
                 found += [Misfit(int(record or 0), column, text, column.type) for record, text in rows]
         return sorted(found, key=lambda one: one.record)
+
+    def look_at(self, table: str) -> None:
+        self.run(f"ANALYZE {table}")
 
     def key_text(self, cells: list[str]) -> str:
         texts = [f"({cell})::text" for cell in cells]

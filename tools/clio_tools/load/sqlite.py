@@ -217,6 +217,9 @@ class Sqlite(Database):
     def convert(self, plan: TablePlan, options: Options, is_dry: bool) -> None:
         """The work table has values already."""
 
+    def look_at(self, table: str) -> None:
+        """SQLite makes an index where a join needs one."""
+
     def key_text(self, cells: list[str]) -> str:
         return " || ',' || ".join(f"quote({cell})" for cell in cells)
 

@@ -114,10 +114,11 @@ class Differences:
         mark = [self.database.unmarked(plan.mark)] if plan.mark else []
         here = [f"t.{identifier(name)}" for name in differences]
         flags = [f"CASE WHEN {test} THEN 1 ELSE 0 END" for test in differences.values()]
-        sql = (f"SELECT {', '.join(new + mark + here + flags)} FROM {plan.work('diff')} AS n JOIN {plan.table.sql} AS t"
-               f" ON {self.comparison.match(plan, 't', 'n')} WHERE n.is_new = 0")
+        rows = limited(f"SELECT * FROM {plan.work('diff')} WHERE is_new = 0", most)
+        sql = (f"SELECT {', '.join(new + mark + here + flags)} FROM ({rows}) AS n JOIN {plan.table.sql} AS t"
+               f" ON {self.comparison.match(plan, 't', 'n')}")
         count = len(differences)
-        for row in self.database.stream(limited(sql, most)):
+        for row in self.database.stream(sql):
             after, before, flagged = row[:count], row[count:2 * count], row[2 * count:]
             yield "change", key_of(plan, row), [cell for cell, flag in zip(zip(differences, before, after), flagged)
                                                 if flag == "1"]
