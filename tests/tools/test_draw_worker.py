@@ -327,6 +327,17 @@ class Choices(unittest.TestCase):
                          [("flight", "dep", "Frankfurt"), ("flight", "arr", "New York")])
         self.assertEqual(found["choices"][0]["says"], "city of the port that dep leads to")
 
+    def test_a_line_from_a_whole_set_may_go_to_another_row_of_it(self) -> None:
+        text = ("mapping 1; source { set emp { id, mgr; ref (mgr) -> emp (id); } }\n"
+                "target { set person { pid, no, boss; key (no); ref (boss) -> person (pid); } }\n"
+                "rows person from emp; line emp.id -> person.no;")
+        (folder := draw_trial.room()).joinpath("emp.csv").write_text("id,mgr\n1,\n2,1\n")
+        found = Asked(folder)("ways", text=text, source=["emp", None], target=["person", "boss"])
+        self.assertEqual([(one["by"], one["sample"]["value"]) for one in found["choices"]],
+                         [("", [["id", "2"], ["mgr", "1"]]), ("mgr", [["id", "1"], ["mgr", ""]])])
+        self.assertEqual(Asked(folder)("ways", text=text, source=["emp", "mgr"], target=["person", "boss"]),
+                         {"choices": []})
+
     def test_without_notes_too(self) -> None:
         text = "\n".join(line.partition(" by ")[0].rstrip(";") + ";" if line.startswith("line") else line
                          for line in self.text.split("\n") if not line.startswith("rows"))

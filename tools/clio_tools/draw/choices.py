@@ -32,9 +32,10 @@ def choices(text: str, source: list[str | None], target: list[str], sampler: Sam
     except (Faulty, Refused):
         return {"choices": []}
     noted = list(dict.fromkeys(one.source.text for one in drawing.tree.rows if one.target.text == target[0]))
+    is_whole = source[1] is None
     found = [(start, way) for start in noted or _starts(drawing, target[0])
-             for way in _ways(drawing, start, str(source[0]))]
-    if len(found) < 2 or all(start == source[0] for start, _ in found):
+             for way in _ways(drawing, start, str(source[0]), is_whole)]
+    if len(found) < 2 or all(start == source[0] for start, _ in found) and not is_whole:
         return {"choices": []}
     shown = Shown(drawing, mapping, sampler)
     return {"choices": [shown.choice(start, way, source) for start, way in found], "noted": bool(noted)}
@@ -45,9 +46,11 @@ def _starts(drawing: Drawing, name: str) -> list[str]:
     return Proposing(drawing).starts.get(drawing.target_number(name), [])
 
 
-def _ways(drawing: Drawing, start: str, goal: str) -> list[Way]:
-    numbers = drawing.source.numbers
-    return drawing.ways.walks(numbers[start], numbers[goal])
+def _ways(drawing: Drawing, start: str, goal: str, is_whole: bool) -> list[Way]:
+    """The ways from a set to another; for a line from a whole set those too that lead to another row of the same set."""
+    one, other = drawing.source.numbers[start], drawing.source.numbers[goal]
+    circles: list[Way] = [(step,) for step in drawing.ways.steps[one] if is_whole and one == step.table == other]
+    return drawing.ways.walks(one, other) + circles
 
 
 def _step(step: Step) -> str:
@@ -64,7 +67,7 @@ class Shown:
     def choice(self, start: str, way: Way, source: list[str | None]) -> Data:
         """One choice: what is written, what it says, and what it gives for a row."""
         said = self._said(way, source)
-        row = self._row(start, str(source[0]))
+        row = self._row(start, str(source[0]), source[1] is None)
         sample: Data | None = None
         if row is not None:
             number = self.drawing.source.numbers[start]
@@ -81,10 +84,10 @@ class Shown:
         said = [f"the {self.drawing.ways.name(step.table)} that {_step(step)} leads to" for step in way[:-1]]
         return f"{what} that {_step(way[-1])} leads to" + "".join(f", from {one}" for one in reversed(said))
 
-    def _row(self, start: str, goal: str) -> Row | None:
+    def _row(self, start: str, goal: str, is_whole: bool) -> Row | None:
         """A row of a set on which the ways to another differ most."""
         number = self.drawing.source.numbers[start]
-        ways = _ways(self.drawing, start, goal)
+        ways = _ways(self.drawing, start, goal, is_whole)
         best: tuple[int, Row] | None = None
         for row in self._rows(number):
             ends = [next(self._ends(number, row, way), None) for way in ways]
