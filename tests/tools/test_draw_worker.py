@@ -13,7 +13,6 @@ import draw_trial
 from trial import PROGRAM, TIMES
 
 from clio_tools.draw.edits import edited
-from clio_tools.draw.faults import place_of
 from clio_tools.draw.outline import Outline
 from clio_tools.draw.worker import Worker
 
@@ -134,6 +133,41 @@ class Live(unittest.TestCase):
             for step in self.cured(folder, edited(text, cure["action"])[0], 3):
                 self.assertIsNone(step)
 
+    def test_a_remark_has_its_edits(self) -> None:
+        """A needed ref that only some rows fill asks for a row of nulls: either edit answers that."""
+        folder = draw_trial.EXAMPLES / "teams"
+        text = (folder / "mapping.clio").read_text() + "rows person from emp;\nrows team from dept;\n"
+        text = text.replace("phone, team;", "phone, team; key (name);").replace("key (label)", "key (tid); key (label)")
+        found = Asked(folder).live(text)["remarks"]
+        self.assertEqual([one["title"] for each in found for one in each["cures"]],
+                         ["rows person from emp with dept", "make the ref (team) of person optional"])
+        for cure in found[0]["cures"]:
+            made = Asked(folder).live(edited(text, cure["action"])[0])
+            self.assertEqual((made["fault"], made["remarks"]), (None, []))
+
+    def test_a_set_of_which_lines_say_too_much_is_left_out(self) -> None:
+        """The others have their rows, and the set has them when `rows` says from which set they come."""
+        text = (draw_trial.EXAMPLES / "northwind" / "drawing.clio").read_text()
+        head = text[:text.index("// Each row")]
+        head += "line Countries.Code -> country.code;\nline Countries.Name -> country.name;\n"
+        made = Asked(draw_trial.room()).live(head + "rows country from Countries;\n")
+        self.assertIsNone(made["fault"])
+        self.assertEqual([one["set"] for one in made["aside"]], ["sale", "sale_line"])
+        self.assertEqual({name for name, table in made["tables"].items() if table["count"]}, {"country"})
+        made = Asked(draw_trial.room()).live(head + "line Countries.Name -> sale.ship_country;\n")
+        self.assertIn(["rows sale from Countries"], [[one["title"] for one in each["cures"]] for each in made["aside"]])
+
+    def test_a_clash_in_a_set_without_rows_has_its_edit(self) -> None:
+        folder = draw_trial.copy_of("teams")
+        with open(folder / "dept.csv", "a", encoding="utf-8") as file:
+            file.write("toys,Rome\n")
+        text = (folder / "mapping.clio").read_text()
+        fault = Asked(folder).live(text)["fault"]
+        self.assertEqual([one["title"] for one in fault["cures"]], ["rows team from dept"])
+        made = edited(text + "rows person from emp with dept;\n", fault["cures"][0]["action"])[0]
+        fault = Asked(folder).live(made)["fault"]
+        self.assertEqual((fault["status"], fault["cures"]), (3, []))
+
     def test_what_a_key_needs_is_offered(self) -> None:
         """A key of which a ref is a part: of the set itself, and of one to which a ref leads."""
         folder = draw_trial.copy_of("teams")
@@ -148,7 +182,7 @@ class Live(unittest.TestCase):
         note = "line shop.code -> thing.note by made;\n"
         cures = Asked(folder).live(head + note)["fault"]["cures"]
         self.assertEqual([one["title"] for one in cures],
-                         ["rows thing from item with sold", "rows thing from item with made"])
+                         ["rows thing from item with sold", "rows thing from item with made", "lookup shop"])
         self.assertIsNone(Asked(folder).live(edited(head + note, cures[0]["action"])[0])["fault"])
         linked = head + "rows piece from part with of;\nline part.name -> piece.name;\n"
         cures = Asked(folder).live(linked)["fault"]["cures"]
@@ -185,9 +219,20 @@ class Live(unittest.TestCase):
                          ["line 2 (record 1)", "line 30001 (record 30000)"])
         text = TWO_FILES.replace("set c { u, v; }", "set c { u, v; key (u); }").replace("line a.x -> c.u",
                                                                                        'line "same" -> c.u')
-        self.assertIn("b.csv, line 30001 (record 30000): ", "".join(ask.live(text, rows=20)["fault"]["lines"]))
+        self.assertIn("b.csv, line 30001 (record 30000): ",
+                      "".join(one["text"] for one in ask.live(text, rows=20)["fault"]["lines"]))
         (folder / "b.csv").write_text("z,w\n1,2,3\n" + "x" * 300000)
         self.assertIn("width of record 1", ask.live(TWO_FILES, rows=20)["fault"]["message"])
+
+    def test_a_fault_of_a_sample_has_its_place_in_the_whole_file(self) -> None:
+        folder = draw_trial.room()
+        objects: list[dict[str, object]] = [{"id": f"i{n}", "more": [{"x": "x" * 20}]} for n in range(9000)]
+        (folder / "a.json").write_text(json.dumps([*objects, {"id": "last", "zz": "1"}]))
+        (folder / "b.csv").write_text("k\nlast\n")
+        text = ("mapping 1; source { set b { k; ref (k) -> a (id); } set a { id; set more { x; } } }"
+                " target { set c { u; } } line a.id -> c.u; line b.k -> c.u;")
+        fault = Asked(folder).live(text, rows=20)["fault"]
+        self.assertEqual(fault["message"], "rows: a.json: unknown member at /9000/zz")
 
     def test_the_whole_source_is_read(self) -> None:
         folder = draw_trial.room()
@@ -261,7 +306,14 @@ class Live(unittest.TestCase):
             fault = Asked(draw_trial.room()).live(text)["fault"]
             wide = text[:start].count("\U0001f600")  # two units of a browser's text
             self.assertEqual(fault["at"], [start + wide, end + wide], (text, fault))
-        self.assertIsNone(place_of("clash: table a", b""))
+
+
+    def test_explanations_have_the_places_that_they_name(self) -> None:
+        text = "mapping 1;\nsource { set a { x, y,\n  x; } } target { set b { y; } }"
+        fault = Asked(draw_trial.room()).live(text)["fault"]
+        first = text.index("x")
+        self.assertEqual(fault["lines"], [{"text": "it is there already:"},
+                                          {"text": "line 2, column 18", "line": 2, "at": [first, first + 1]}])
 
 
 class Examples(unittest.TestCase):

@@ -21,6 +21,7 @@ from clio_tools.explain.clashes import FORM, Clashes, plain
 from clio_tools.explain.endings import explained
 from clio_tools.explain.joins import Matches
 from clio_tools.explain.key_chase import Canonical, KeyChase
+from clio_tools.explain.pieces import printed
 from clio_tools.explain.program import mapping_of
 from clio_tools.explain.said import visible
 from clio_tools.explain.source import Source
@@ -231,7 +232,7 @@ class Explain(unittest.TestCase):
         assert told is not None
         self.assertEqual(found.names(first), (told[1], told[2].split(", "), told[5]))
         self.assertLessEqual({plain(told[3]), plain(told[4])}, set(first.texts))
-        self.assertTrue(all(line.isprintable() for line in found.lines(message)))
+        self.assertTrue(all(line.isprintable() for line in printed(found.pieces(message))))
 
     def try_target(self, found: Clashes) -> None:
         """The rows after the chase are those that clio wrote."""

@@ -1,80 +1,91 @@
 """A refusal as data for the page: its message, its place in the text, and what clio-explain says of it."""
-import re
-from collections.abc import Iterator
+from collections.abc import Iterable, Iterator
 
-from ..explain.endings import explained
-from ..explain.placed import token_length
+from ..explain.endings import explanation
+from ..explain.pieces import Mark, Piece, RowLine, first_lines
 from ..mapping.meaning import Unread, read_mapping
 from ..mapping.places import Fault, Text
 from ..program import ending
 from .cures import of_fault
 from .outline import Data, Outline
+from .places import said
 from .sample import Report
 from .units import Units
 
 SHOWN = 60  # lines of an explanation that are shown
 
 
-def place_of(message: str, content: bytes) -> tuple[int, int] | None:
-    """The bytes of a mapping text that a message of clio speaks of."""
-    if not message.startswith("mapping: "):
-        return None
-    fault: Fault | None = None
-    try:
-        read_mapping(content)
-    except Unread as why:
-        fault = why.fault
-    found = re.search(r" at byte ([0-9]+)$", message)
-    if found and (fault is None or fault.start != int(found[1])):
-        start = int(found[1])
-        return start, start + token_length(content, start) if start < len(content) else start
-    return (fault.start, fault.end) if fault else None
+class Shown:
+    """The pieces of explanations as the page shows them: places of its text, if they speak of that, can be clicked, and
+    rows of a sample are where they are in the whole files."""
+
+    def __init__(self, content: bytes | None, report: Report) -> None:
+        self.content, self.report, self.units = content, report, Units(content or b"")
+
+    def piece(self, piece: Piece) -> Data:
+        """A piece as text, and with its place if it is one of the page's text."""
+        if isinstance(piece, RowLine):
+            return {"text": said(piece, self.report)}
+        if isinstance(piece, Mark):
+            return self.mark(piece) if self.is_here(piece) else {"text": "\n".join(piece.lines())}
+        return {"text": piece}
+
+    def is_here(self, piece: Piece) -> bool:
+        """Whether a piece is a place of the page's text."""
+        return isinstance(piece, Mark) and piece.content == self.content
+
+    def mark(self, mark: Mark) -> Data:
+        """A place of the page's text."""
+        return self.place(mark.start, mark.start + mark.length)
+
+    def place(self, start: int, end: int) -> Data:
+        """The bytes from one up to another in the page's text."""
+        place = Text(self.content or b"").place(start)
+        return {"text": f"line {place.line}, column {place.column}", "line": place.line,
+                "at": self.units.span(start, end)}
+
+    def pieces(self, pieces: Iterable[Piece]) -> list[Data]:
+        """The first pieces."""
+        return [self.piece(piece) for piece in first_lines(pieces, SHOWN)]
 
 
-def in_whole_files(line: str, report: Report) -> str:
-    """A line of an explanation in which places in a sample are places in the whole file."""
-    for taken in report.values():
-        if taken.places:
-            line = _at_record(line, taken.file, taken.places)
-            line = _at_member(line, taken.file, taken.places)
-    return line
-
-
-def _at_member(line: str, file: str, places: list[str]) -> str:
-    return re.sub(rf"\b{re.escape(file)}/([0-9]+)", lambda found: file + places[int(found[1])], line)
-
-
-def _at_record(line: str, file: str, places: list[str]) -> str:
-    return re.sub(rf"\b{re.escape(file)}, line [0-9]+ \(record ([0-9]+)\)",
-                  lambda found: f"{file}, {places[int(found[1]) - 1]}", line)
-
-
-def of_clio(status: int, message: str, words: list[str], content: bytes, report: Report) -> Data:
-    """clio's own refusal, with what clio-explain says; the picture of the line is left out, since the page shows the
-    text itself."""
-    lines = list(_explained(status, message, words, report))
-    made: Data = {"status": status, "message": message, "at": None}
-    place = place_of(message, content)
-    if place:
-        made["at"] = Units(content).span(*place)
-        made["line"] = Text(content).place(place[0]).line
-        if lines and re.match(r"line [0-9]+, column", lines[0]):
-            lines = lines[3:]
-    made["lines"] = lines[:SHOWN]
+def of_clio(status: int, message: str, words: list[str], shown: Shown) -> Data:
+    """clio's own refusal, with what clio-explain says. The first place that this names in the text is that of the
+    refusal."""
+    pieces = list(_explained(status, message, words))
+    first = next((place for place, piece in enumerate(pieces) if shown.is_here(piece)), None)
+    made: Data = shown.piece(pieces.pop(first)) if first is not None else _unexplained(message, shown)
+    made.update(status=status, message=message, lines=shown.pieces(pieces))
     return made
 
 
-def _explained(status: int, message: str, words: list[str], report: Report) -> Iterator[str]:
+def _unexplained(message: str, shown: Shown) -> Data:
+    """The place of a fault of the text that is not explained."""
+    if message.startswith("mapping: ") and shown.content is not None:
+        try:
+            read_mapping(shown.content)
+        except Unread as why:
+            return shown.place(why.fault.start, why.fault.end)
+    return {"at": None}
+
+
+def _explained(status: int, message: str, words: list[str]) -> Iterator[Piece]:
     try:
-        for line in explained(status, message, words):
-            yield in_whole_files(line, report)
+        yield from explanation(status, message, words)
     except Exception as error:  # pylint: disable=broad-except
         yield f"no more can be said of it: {ending(error)[1]}"
 
 
+def aside(faults: tuple[Fault, ...], content: bytes) -> list[Data]:
+    """The sets without `rows` that are left out, each with what is said of it, and with its edits."""
+    shown, outline = Shown(content, {}), Outline(content)
+    return [{"set": content[one.start:one.end].decode(), "says": one.said, "cures": of_fault(one, outline),
+             **shown.place(one.start, one.end)} for one in faults]
+
+
 def of_drawing(faults: tuple[Fault, ...], content: bytes) -> Data:
     """The faults of a drawing: the first with its place and its cures, the others in lines below it."""
-    text, at, first = Text(content), Units(content), faults[0]
-    lines = [f"line {text.place(one.start).line}: {one.said}" for one in faults[1:]]
-    return {"status": 2, "message": first.said, "at": at.span(first.start, first.end),
-            "line": text.place(first.start).line, "lines": lines[:SHOWN], "cures": of_fault(first, Outline(content))}
+    shown, first = Shown(content, {}), faults[0]
+    others: list[Data] = [{"says": one.said, **shown.place(one.start, one.end)} for one in faults[1:SHOWN + 1]]
+    return {**shown.place(first.start, first.end), "status": 2, "message": first.said, "lines": others,
+            "cures": of_fault(first, Outline(content))}

@@ -6,7 +6,7 @@ import shutil
 import time
 
 from ..csv import records
-from ..explain.traps import Traps, switched_off
+from ..explain.traps import Traps, wanted
 from ..mapping.meaning import Mapping, read_mapping
 from ..mapping.rules import TooLarge, closed
 from ..mapping.rules import printed as printed_rule
@@ -14,7 +14,7 @@ from ..program import Refused, ending
 from ..why.exchange import is_null
 from . import faults
 from .clashing import of_clash
-from .cures import of_warning
+from .cures import of_remark, of_warning
 from .examples import Examples
 from .meant import Meant, meant
 from .outline import Data, Outline
@@ -23,7 +23,7 @@ from .running import Ended, Runner, Stopped
 from .sample import Report, Sampler
 from .words import in_words
 
-CLASH = 3  # the status that clio ends with
+CLASH, ROWS = 3, 5  # statuses that clio ends with
 SHOWN = 100  # rows of each table that are passed on at once
 CELLS = 12_000  # so many cells are passed on at once of all tables
 
@@ -66,14 +66,20 @@ class Live:
         self.mapping = self.reasons = None
         self.number += 1
         made: Data = {"run": self.number, "rules": None, "fault": None, "stopped": None, "tables": None, "sources": {},
-                      "drawing": False, "remarks": [], "whole": rows is None}
+                      "drawing": False, "remarks": [], "aside": [], "whole": rows is None}
         self.meant = meant(self.content)
-        made["drawing"], made["remarks"] = self.meant.is_drawing, list(self.meant.remarks)
+        made["drawing"] = self.meant.is_drawing
         if self.meant.faults:
             made["fault"] = faults.of_drawing(self.meant.faults, self.content)
             return made
         pathlib.Path("mapping.clio").write_bytes(self.meant.content)
         shutil.rmtree("out", ignore_errors=True)
+        if self.meant.aside:
+            made["aside"] = faults.aside(self.meant.aside, self.content)
+        if self.meant.remarks:
+            outline = Outline(self.content)
+            made["remarks"] = [{"lines": [{"text": one.said}], "cures": of_remark(one, outline)}
+                               for one in self.meant.remarks]
         try:
             if self._show(made):
                 self._exchange(made, rows)
@@ -119,9 +125,12 @@ class Live:
         made["sources"] = {name: one.as_data() for name, one in self.report.items() if one.kind != "test"}
         words = ["exchange", *self._mode()]
         ended = self.runner.run(*words)
+        if ended.status == ROWS and any(one.places for one in self.report.values()):
+            self.report = self.sampler.prepare(mapping, self.meant, None)  # its message has the place in the whole file
+            ended = self.runner.run(*words)
         if ended.status != 0:
             made["fault"] = self._fault(ended, words) if ended.status != CLASH else \
-                of_clash(ended.message, mapping, self.printed, self.meant.content, self.report)
+                of_clash(ended.message, mapping, self.printed, self.meant.content, self._shown(), Outline(self.content))
             return
         self.mapping = mapping
         counts = dict(re.findall(rb"^(\S+)\.csv ([0-9]+)$", ended.printed, re.MULTILINE))
@@ -130,13 +139,15 @@ class Live:
         made["tables"] = {table.name: self.rows(table.name, 0) | {"count": int(counts[table.name.encode()])}
                           for table in mapping.target}
 
+    def _shown(self) -> faults.Shown:
+        """How explanations are shown: of a drawing they have no places, since clio speaks of the printed mapping."""
+        return faults.Shown(None if self.meant.is_drawing else self.content, self.report)
+
     def _fault(self, ended: Ended, words: list[str]) -> Data:
-        """A refusal; of a drawing it has no place, since clio speaks of the printed mapping."""
-        made = faults.of_clio(ended.status, ended.message, words, self.meant.content, self.report)
-        if self.meant.is_drawing:
-            made["at"] = None
-            if ended.message.startswith("mapping: "):
-                made["message"] = f"the mapping that the drawing means is refused: {ended.message}"
+        """A refusal."""
+        made = faults.of_clio(ended.status, ended.message, words, self._shown())
+        if self.meant.is_drawing and ended.message.startswith("mapping: "):
+            made["message"] = f"the mapping that the drawing means is refused: {ended.message}"
         return made
 
     def rows(self, name: str, start: int) -> Data:
@@ -157,18 +168,16 @@ class Live:
         """What clio-explain warns of: after the rows, since it takes longer than they do."""
         if self.mapping is None or self.written is None:
             return {"warnings": []}
-        off = switched_off(self.content)
         traps = KnownTraps(self.mapping, self.printed, self.written)
-        outline = Outline(self.content)
+        outline, shown = Outline(self.content), self._shown()
         found: list[Data] = []
         try:
-            for one in itertools.chain(traps.of_mapping(), traps.of_data(self.core)):
-                if not off.intersection({(one.name, ""), (one.name, one.set)}):
-                    found.append({"name": one.name, "set": one.set,
-                                  "lines": [faults.in_whole_files(line, self.report) for line in one.lines],
-                                  "cures": of_warning(one.name, one.set, one.lines[0], outline)})
+            for one in wanted(itertools.chain(traps.of_mapping(), traps.of_data(self.core)), self.content):
+                found.append({"name": one.name, "set": one.set, "lines": shown.pieces(one.pieces),
+                              "cures": of_warning(one, outline)})
         except (Exception, MemoryError) as error:  # pylint: disable=broad-except
-            found.append({"name": "", "set": "", "cures": [], "lines": [f"no more warnings: {ending(error)[1]}"]})
+            said = shown.pieces([f"no more warnings: {ending(error)[1]}"])
+            found.append({"name": "", "set": "", "cures": [], "lines": said})
         return {"warnings": found}
 
     # --- reasons -----------------------------------------------------------------------------------------------------

@@ -6,7 +6,7 @@ from ..mapping.meaning import Mapping, mapping_of_tree
 from ..mapping.parser import parse
 from ..mapping.places import Fault
 from ..program import Refused
-from ..rules.model import Drawing
+from ..rules.model import Drawing, Remark
 from ..rules.printed import Printed
 from ..rules.saying import said
 from ..rules.ways import Wrong
@@ -33,7 +33,8 @@ class Meant:
     links: dict[str, str] = field(default_factory=dict)
     plain: int = 0  # so many rules come of lines without notes, before those of the notes
     behind: tuple[Behind, ...] = ()
-    remarks: tuple[str, ...] = ()
+    remarks: tuple[Remark, ...] = ()
+    aside: tuple[Fault, ...] = ()  # of sets without `rows` that are left out
     faults: tuple[Fault, ...] = ()
 
     def behind_rule(self, number: int) -> Behind | None:
@@ -43,12 +44,16 @@ class Meant:
 
 
 def meant(content: bytes) -> Meant:
-    """The mapping of a text; what only a drawing can say makes it one, whatever the name of its file is."""
+    """The mapping of a text; what only a drawing can say makes it one, whatever the name of its file is.
+
+    A set without `rows` of which lines say more than clio takes is left out, so that the others have their rows: in a
+    target of many refs a first line may lead to that."""
     if not Outline(content).is_drawing:
         return Meant(content)
     try:
         drawing = worked_out(content)
-        made = Printed(drawing)
+        aside: list[Fault] = []
+        made = Printed(drawing, aside)
     except Faulty as why:
         return Meant(content, True, faults=tuple(why.faults))
     except Wrong as why:
@@ -56,7 +61,7 @@ def meant(content: bytes) -> Meant:
     text = made.text.encode()
     plain = len(parse(text).tree.rules) - len(drawing.made) - len(drawing.tree.rules)
     return Meant(text, True, made.sets.files(), made.sets.links(), plain, tuple(_behind(drawing)),
-                 tuple(drawing.remarks))
+                 tuple(drawing.remarks), aside=tuple(aside))
 
 
 def _behind(drawing: Drawing) -> list[Behind]:

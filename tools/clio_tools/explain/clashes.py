@@ -5,6 +5,7 @@ from collections.abc import Iterator
 from clio_tools.explain.causes import shown_ref
 from clio_tools.explain.joins import Matches, TooMany
 from clio_tools.explain.key_chase import Canonical, Clash, KeyChase, KeyStep, Origin, Value
+from clio_tools.explain.pieces import Piece, RowLine
 from clio_tools.explain.program import mapping_of
 from clio_tools.explain.said import amount, listed, shown, visible
 from clio_tools.explain.source import Source
@@ -53,7 +54,7 @@ class Clashes:
         """The columns of the key, or the left ones of the dependency, of a clash or a step."""
         return self.chase.determinations[step.table][step.key][0]
 
-    def lines(self, message: str) -> Iterator[str]:
+    def pieces(self, message: str) -> Iterator[Piece]:
         """All clashes in words."""
         ordered = self.ordered(message)
         yield (f"{amount(len(ordered), 'clash', 'clashes')} in all: rows that agree on a key{self.or_dependency()} and"
@@ -114,34 +115,32 @@ class Clashes:
     def shown_value(self, value: Value) -> str:
         return "?%d.%d.%d" % value if isinstance(value, tuple) else shown(value)
 
-    def of_text(self, clash: Clash, text: str) -> Iterator[str]:
+    def of_text(self, clash: Clash, text: str) -> Iterator[Piece]:
         """The rows that have a text, with the source rows that they are from."""
         rows = clash.texts[text]
         for row in rows[:ROWS]:
             origin = self.canonical.origins[clash.table][row][0]
             yield f"   {shown(text)} by rule {origin.rule}: {visible(self.printed[origin.rule])[:300]}"
-            first = True
-            for line in self.sources(origin):
-                yield f"      {'from' if first else ' and'} {line}"
-                first = False
+            yield from self.sources(origin)
         if len(rows) > ROWS:
             yield f"   {shown(text)} in {len(rows) - ROWS} more"
 
-    def sources(self, origin: Origin) -> Iterator[str]:
+    def sources(self, origin: Origin) -> Iterator[RowLine]:
         """The source rows of the first match that gives a tuple."""
         chosen = self.matches[origin.rule].found[origin.tuple][0]
         rule = self.mapping.rules[origin.rule]
-        for table, row in dict.fromkeys((atom.table, row) for atom, row in zip(rule.premise, chosen)):
-            yield self.source.shown_row(table, row)
+        rows = dict.fromkeys((atom.table, row) for atom, row in zip(rule.premise, chosen))
+        for place, (table, row) in enumerate(rows):
+            yield RowLine("       and " if place else "      from ", self.source.row(table, row))
 
-    def of_nulls(self, clash: Clash) -> Iterator[str]:
+    def of_nulls(self, clash: Clash) -> Iterator[Piece]:
         """How the nulls in the key of a clash's rows became what they are."""
         told: set[Value] = set()
         for row in [rows[0] for rows in clash.texts.values()][:4]:
             for column in (*self.left(clash), clash.column):
                 yield from self.of_value(self.canonical.rows[clash.table][row][column], told)
 
-    def of_value(self, value: Value, told: set[Value]) -> Iterator[str]:
+    def of_value(self, value: Value, told: set[Value]) -> Iterator[Piece]:
         """The key steps that replaced a null, one after the other."""
         while value in self.chase.steps and value not in told and len(told) < 12:
             told.add(value)
@@ -151,8 +150,7 @@ class Clashes:
             yield (f"   {self.shown_value(value)} is {self.shown_value(step.value)}, since two rows of {table.name}"
                    f" agree on ({key}):")
             for row in step.rows:
-                for place, line in enumerate(self.sources(self.canonical.origins[step.table][row][0])):
-                    yield f"      {'from' if not place else ' and'} {line}"
+                yield from self.sources(self.canonical.origins[step.table][row][0])
             for row in step.rows:
                 for column in self.left(step):
                     yield from self.of_value(self.canonical.rows[step.table][row][column], told)
@@ -165,12 +163,12 @@ def plain(literal: str) -> str:
                   flags=re.DOTALL)
 
 
-def explain(message: str, content: bytes) -> Iterator[str]:
+def explain(message: str, content: bytes) -> Iterator[Piece]:
     """The lines that explain a clash."""
     mapping, printed = mapping_of(content)
     if mapping is None:
         return
     try:
-        yield from Clashes(mapping, printed).lines(message)
+        yield from Clashes(mapping, printed).pieces(message)
     except TooMany:
         yield "the matches of the rules are too many to look for all clashes here"

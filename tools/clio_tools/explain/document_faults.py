@@ -6,7 +6,8 @@ from collections.abc import Iterable, Iterator
 from typing import NoReturn
 
 from clio_tools.csv import MARK
-from clio_tools.explain.said import amount, listed, shown, visible, with_caret
+from clio_tools.explain.pieces import Mark, Piece
+from clio_tools.explain.said import amount, listed, shown, visible
 from clio_tools.mapping.tables import Table
 
 Found = tuple[int, object, int]  # the place of a value, itself, and the number of its table
@@ -18,7 +19,7 @@ KINDS: dict[type, str] = {dict: "an object", list: "an array", str: "a text", bo
 DEEPEST = 127
 
 
-def explain(message: str, file: str, content: bytes, tables: list[Table], root: int) -> Iterator[str]:
+def explain(message: str, file: str, content: bytes, tables: list[Table], root: int) -> Iterator[Piece]:
     """The lines that explain what is wrong with the document of a set."""
     if content.startswith((b"\xff\xfe", b"\xfe\xff")):
         yield f"the file is UTF-16: iconv -f UTF-16 -t UTF-8 {file} > new; mv new {file}"
@@ -31,7 +32,7 @@ def explain(message: str, file: str, content: bytes, tables: list[Table], root: 
         return
     document = Document(content)
     for place, value, number in document.places(found[2], tables, root):
-        yield from with_caret(document.content, document.byte(place))
+        yield Mark(document.content, document.byte(place))
         if found[1] == "number":
             raw = document.text[place:document.decoder.raw_decode(document.text, place)[1]]
             yield (f"{raw[:60]} is no integer of 64 bits: its digits would not be kept, so write it as a text:"
@@ -42,19 +43,19 @@ def explain(message: str, file: str, content: bytes, tables: list[Table], root: 
     yield f"nothing was found at {visible(found[2][:200])}"
 
 
-def no_document(content: bytes) -> Iterator[str]:
+def no_document(content: bytes) -> Iterator[Piece]:
     """Why the bytes are no JSON: the first place at which reading stops."""
     body = content.removeprefix(MARK)
     try:
         text = body.decode("utf-8")
     except UnicodeDecodeError as error:
-        yield from with_caret(body, error.start)
+        yield Mark(body, error.start)
         yield f"the byte {body[error.start:error.start + 1].hex()} is no UTF-8"
         return
     try:
         value = json.loads(text, parse_constant=no_constant)
     except json.JSONDecodeError as error:
-        yield from with_caret(body, len(text[:error.pos].encode()))
+        yield Mark(body, len(text[:error.pos].encode()))
         yield error.msg + (": the document ends here" if error.pos >= len(text.rstrip()) else "")
     except RecursionError:
         yield f"arrays and objects are nested deeper than {DEEPEST}"
@@ -69,19 +70,19 @@ def no_constant(name: str) -> NoReturn:
     raise ValueError(f"{name} is no JSON: write it as a text")
 
 
-def accepted_elsewhere(value: object, text: str, body: bytes) -> Iterator[str]:
+def accepted_elsewhere(value: object, text: str, body: bytes) -> Iterator[Piece]:
     """What Python reads and clio doesn't: nesting, halves of characters, numbers past all floating numbers."""
     found = HALF.search(text)
     if depth(value) > DEEPEST:
         yield f"arrays and objects are nested {depth(value)} deep, and clio reads {DEEPEST}"
     elif found:
-        yield from with_caret(body, len(text[:found.start()].encode()), 6)
+        yield Mark(body, len(text[:found.start()].encode()), 6)
         yield f"{found[0]} is half of a character: a pair of them is one character"
     else:
         number = next((one for one in re.finditer(r"-?[0-9]+(?:\.[0-9]+)?[eE][+-]?[0-9]+|[0-9]{300,}", text)
                        if abs(float(one[0])) == float("inf")), None)
         if number:
-            yield from with_caret(body, len(text[:number.start()].encode()), min(len(number[0]), 60))
+            yield Mark(body, len(text[:number.start()].encode()), min(len(number[0]), 60))
             yield "this number is too large: write it as a text"
 
 

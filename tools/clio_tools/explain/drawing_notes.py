@@ -2,6 +2,7 @@
 import re
 from typing import Iterable, Iterator, Optional
 
+from clio_tools.explain.pieces import Warned
 from clio_tools.explain.program import mapping_of
 from clio_tools.rules.model import Drawing
 from clio_tools.rules.proposing import Proposing
@@ -11,13 +12,6 @@ MOST = 40  # notes that are printed
 LIMITS = ("ways", "variants", "candidates")
 HEAD = ("a drawing says what is meant: name the text drawing.clio, put these in, in the place of the lines that they "
         "repeat, and run clio-rules --write (man clio-rules):")
-SET_DOUBTED = [re.compile(form) for form in (r"matches ask for a row of (\w+) with nothing in its key",
-                                             r"no rule has the text of line .* -> (\w+)[.]",
-                                             r" of (\w+) leads to columns that are no key of (\w+):")]
-RULE_DOUBTED = [re.compile(form) for form in (r"rule (\d+) has .* twice on its",
-                                              r"rows of \w+ holds? nothing but nulls, since rules? (\d+)",
-                                              r"each match of rule (\d+) makes a row of its own",
-                                              r"rule (\d+) makes rows of .* without the key \(")]
 
 
 def after_limit(message: str, content: Optional[bytes]) -> Iterator[str]:
@@ -34,14 +28,15 @@ def after_clash(message: str, content: bytes) -> Iterator[str]:
         yield from notes(content, {found[1]})
 
 
-def after_warnings(lines: Iterable[str], content: bytes) -> Iterator[str]:
-    """Warnings as they come, and then the notes for the tables, and for those of the rules, that they doubt."""
+def after_warnings(warnings: Iterable[Warned], content: bytes) -> Iterator[str]:
+    """The lines of warnings as they come, and then the notes for the sets, and for those of the rules, that they
+    doubt."""
     sets: set[str] = set()
     rules: set[int] = set()
-    for line in lines:
-        yield line
-        sets |= {name for form in SET_DOUBTED for found in [form.search(line)] if found for name in found.groups()}
-        rules |= {int(found[1]) for form in RULE_DOUBTED for found in [form.search(line)] if found}
+    for one in warnings:
+        yield from one.lines()
+        sets.update(one.sets)
+        rules.update(one.rules)
     mapping = mapping_of(content)[0] if rules else None
     if mapping:
         sets |= {mapping.target[atom.table].name for number in rules for atom in mapping.rules[number].conclusion}

@@ -1,8 +1,9 @@
 """What in a drawing led to the rules that are named, if the mapping was printed by clio-rules."""
 import pathlib
 import re
-from typing import Iterable, Iterator, Optional
+from typing import Iterable, Iterator, Optional, TypeVar
 
+from clio_tools.explain.pieces import Piece
 from clio_tools.explain.program import mapping_of
 from clio_tools.explain.said import visible
 from clio_tools.mapping.meaning import read_mapping
@@ -12,18 +13,20 @@ from clio_tools.rules.printed import Origin, Printed, is_as_printed, marked
 from clio_tools.rules.whole import Faulty, worked_out
 from clio_tools.rules.ways import Wrong
 
+P = TypeVar("P", bound=Piece)
 MOST = 20  # rules, and statements of each
 PRINTED = re.compile(rb"// Printed by clio-rules from ([\w.-]+): ")
 # not those of another mapping, nor those with the numbers of rules before any is left out
 NAMED = re.compile(r"\brules? ([0-9]+(?:, [0-9]+)*(?: and [0-9]+)?)\b(?! of other[.]clio| \(before)")
 
 
-def with_drawing(lines: Iterable[str], message: str, content: Optional[bytes]) -> Iterator[str]:
-    """Lines as they come, and then the statements of the drawing behind the rules that they or the message name."""
+def with_drawing(pieces: Iterable[P], message: str, content: Optional[bytes]) -> Iterator[P | str]:
+    """Pieces as they come, and then the statements of the drawing behind the rules that they or the message name."""
     numbers = dict.fromkeys(_numbers(message))
-    for line in lines:
-        yield line
-        numbers.update(dict.fromkeys(_numbers(line)))
+    for piece in pieces:
+        yield piece
+        if isinstance(piece, str):
+            numbers.update(dict.fromkeys(_numbers(piece)))
     printed = PRINTED.match(content) if content and numbers else None
     if printed and content:
         yield from _behind(list(numbers), printed[1].decode(), content)

@@ -1,5 +1,4 @@
 """What can be said of each way in which clio ends, by its status and its message."""
-import itertools
 import pathlib
 import re
 import signal
@@ -7,6 +6,7 @@ from collections.abc import Iterator
 
 from clio_tools.explain import (clashes, compared, document_faults, drawing_notes, drawn, given_faults, mapping_faults,
                                 other_faults, query_faults, sizes, system_faults, table_faults, traps, verdicts)
+from clio_tools.explain.pieces import Piece, first_lines, printed
 from clio_tools.explain.placed import MappingText
 from clio_tools.explain.said import visible
 from clio_tools.explain.source import file_of
@@ -50,7 +50,7 @@ def usage(words: list[str], message: str) -> Iterator[str]:
         yield "demo takes one number from 1 to 100000, without a sign or a zero in front"
 
 
-def rows(message: str) -> Iterator[str]:
+def rows(message: str) -> Iterator[Piece]:
     """What is wrong with a source file."""
     text = MappingText(text_of("mapping.clio") or b"")
     if message.startswith("rows: given/"):
@@ -72,12 +72,17 @@ def rows(message: str) -> Iterator[str]:
 
 
 def explained(status: int, message: str, words: list[str]) -> Iterator[str]:
-    """The lines that explain how clio ended, and of rules of a printed mapping what in its drawing led to them."""
+    """The lines that explain how clio ended."""
+    return printed(explanation(status, message, words))
+
+
+def explanation(status: int, message: str, words: list[str]) -> Iterator[Piece]:
+    """What explains how clio ended, and of rules of a printed mapping what in its drawing led to them."""
     content = text_of("mapping.clio")
     yield from drawn.with_drawing(ending(status, message, words, content), message, content)
 
 
-def ending(status: int, message: str, words: list[str], content: bytes | None) -> Iterator[str]:
+def ending(status: int, message: str, words: list[str], content: bytes | None) -> Iterator[Piece]:
     """What is said of the way in which clio ended."""
     if status < 0:
         yield f"clio was ended by the signal {signal.Signals(-status).name}" + SIGNALS.get(-status, "")
@@ -97,7 +102,7 @@ def ending(status: int, message: str, words: list[str], content: bytes | None) -
     elif status == 5:
         yield from rows(message)
     elif status == 6:
-        yield from itertools.islice(sizes.explain(message, content, words), MOST_OF_LIMITS)
+        yield from first_lines(sizes.explain(message, content, words), MOST_OF_LIMITS)
         yield from drawing_notes.after_limit(message, content)
     elif status == 7:
         yield from system_faults.reading(message.removeprefix("read fault: "))

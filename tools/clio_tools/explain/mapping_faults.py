@@ -4,8 +4,9 @@ import os
 import re
 from collections.abc import Collection, Iterator, Sized
 
+from clio_tools.explain.pieces import Mark, Piece
 from clio_tools.explain.placed import MappingText, is_told, open_marks, possible, token_length
-from clio_tools.explain.said import amount, listed, visible, with_caret
+from clio_tools.explain.said import amount, listed, visible
 from clio_tools.mapping import tree
 from clio_tools.mapping.meanings import CONVERSIONS, TESTS
 from clio_tools.mapping.places import Fault
@@ -30,7 +31,7 @@ NESTED = re.compile(rb"\b(%b)\s*\([^()]*\b(%b)\s*$" % (CALLS, CALLS))
 CURLY = "\u201c\u201d\u201e\u201f\u2018\u2019\u201a\u00ab\u00bb"  # quotes of word processors
 
 
-def explain(message: str, content: bytes | None) -> Iterator[str]:
+def explain(message: str, content: bytes | None) -> Iterator[Piece]:
     """The lines that explain a message `mapping: ..` on the text with these bytes."""
     if content is None:
         yield from absent()
@@ -71,9 +72,9 @@ def mappings_here() -> list[str]:
     return found
 
 
-def at_byte(kind: str, place: int, text: MappingText, message: str) -> Iterator[str]:
+def at_byte(kind: str, place: int, text: MappingText, message: str) -> Iterator[Piece]:
     """A fault at a byte: its line with carets, then what stands in its place or what exists."""
-    yield from with_caret(text.content, place, token_length(text.content, place))
+    yield Mark(text.content, place, token_length(text.content, place))
     if kind in ("unexpected token", "text ended") and text.fault and is_told(text.fault, kind, place):
         yield from of_place(text.content, place) or of_token(text.fault)
     if kind == "text ended":
@@ -105,15 +106,15 @@ def of_token(fault: Fault) -> Iterator[str]:
         yield fault.said
 
 
-def unclosed(content: bytes) -> Iterator[str]:
+def unclosed(content: bytes) -> Iterator[Piece]:
     """What is open at the end of the text."""
     opened, string = open_marks(content)
     if string is not None:
         yield "this text in quotes isn't closed:"
-        yield from with_caret(content, string)
+        yield Mark(content, string)
     elif opened:
         yield f"{amount(len(opened), 'bracket')} not closed; the last one:"
-        yield from with_caret(content, opened[-1])
+        yield Mark(content, opened[-1])
 
 
 def of_character(content: bytes, place: int) -> Iterator[str]:
@@ -222,12 +223,12 @@ def close_ones(what: str, name: str, names: Collection[str]) -> Iterator[str]:
         yield f"perhaps {lower[alike[0]]}"
 
 
-def of_sets(side: str, kind: str, name: str, text: MappingText) -> Iterator[str]:
+def of_sets(side: str, kind: str, name: str, text: MappingText) -> Iterator[Piece]:
     """A fault of the sets, keys and refs of a side."""
     trees = text.side(side)
     if kind in ("reserved name", "bad link in", "cyclic links at"):
         one = next(one for one in trees if one.name == name)
-        yield from with_caret(text.content, one.name.start, len(name))
+        yield Mark(text.content, one.name.start, len(name))
         if kind == "reserved name":
             yield "clio writes files of its own called nulls.csv and fold.csv"
         elif kind == "bad link in":
@@ -239,14 +240,14 @@ def of_sets(side: str, kind: str, name: str, text: MappingText) -> Iterator[str]
     place = next((fault.start for fault in faults if fault.kind == kind), None)
     if place is None:
         return
-    yield from with_caret(text.content, place, len(name))
+    yield Mark(text.content, place, len(name))
     if kind == "double name":
         yield from first_of(place, name, trees, text.content)
     elif kind == "unknown name":
         yield from known_there(place, name, trees)
 
 
-def first_of(place: int, name: str, trees: list[SetTree], content: bytes) -> Iterator[str]:
+def first_of(place: int, name: str, trees: list[SetTree], content: bytes) -> Iterator[Piece]:
     """Where a name that is there twice is for the first time."""
     lists: list[list[Word]] = [[one.name for one in trees]]
     for one in trees:
@@ -260,7 +261,7 @@ def first_of(place: int, name: str, trees: list[SetTree], content: bytes) -> Ite
             first = next(word for word in names if word == name)
             if first.start != place:
                 yield "it is there already:"
-                yield from with_caret(content, first.start, len(first))
+                yield Mark(content, first.start, len(first))
                 return
 
 

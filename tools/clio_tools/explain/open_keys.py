@@ -1,14 +1,14 @@
 """Rows that lines make without the key that other rows of their table have: of what no row leads to, most often."""
 from typing import Iterator, Sequence
 
+from clio_tools.explain.pieces import Warned
 from clio_tools.explain.said import listed, visible
 from clio_tools.mapping.meaning import Mapping
 from clio_tools.mapping.rules import EXISTENTIAL, Conclusion
 
 
-def open_keys(mapping: Mapping, printed: list[str], by_hand: set[str]) -> Iterator[tuple[str, str]]:
-    """For each key that some rules fill, and others of lines leave open with all other keys, its table and what is to
-    be said."""
+def open_keys(mapping: Mapping, printed: list[str], by_hand: set[str]) -> Iterator[Warned]:
+    """A warning for each key that some rules fill, and others of lines leave open with all other keys."""
     for number, table in enumerate(mapping.target):
         made = [(place, atom) for place, rule in enumerate(mapping.rules) for atom in rule.conclusion
                 if atom.table == number and not is_unknown(atom)]
@@ -20,9 +20,10 @@ def open_keys(mapping: Mapping, printed: list[str], by_hand: set[str]) -> Iterat
             filling = [place for place, atom in made if not is_open(atom, key)]
             if filling and opened:
                 sources = dict.fromkeys(mapping.source[atom.table].name for atom in mapping.rules[opened[0]].premise)
-                yield table.name, (f"rule {opened[0]} makes rows of {table.name} from {listed(sources)} without the key"
-                                   f" ({listed(table.columns[column] for column in key)}), which rule {filling[0]}"
-                                   f" fills: is it meant? {visible(printed[opened[0]])[:300]}")
+                yield Warned("open-key", table.name, [
+                    f"rule {opened[0]} makes rows of {table.name} from {listed(sources)} without the key"
+                    f" ({listed(table.columns[column] for column in key)}), which rule {filling[0]} fills: is it meant?"
+                    f" {visible(printed[opened[0]])[:300]}"], rules=(opened[0],))
 
 
 def is_open(atom: Conclusion, columns: Sequence[int]) -> bool:

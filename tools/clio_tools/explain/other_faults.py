@@ -8,8 +8,9 @@ import tempfile
 from collections.abc import Iterator
 
 from clio_tools.explain import mapping_faults
+from clio_tools.explain.pieces import Mark, Piece
 from clio_tools.explain.placed import MappingText
-from clio_tools.explain.said import visible, with_caret
+from clio_tools.explain.said import visible
 from clio_tools.mapping.tables import SetTree
 from clio_tools.program import program
 
@@ -18,7 +19,7 @@ Placed = tuple[SetTree | None, list[str]]  # a set with its clauses
 NAMES = ("mapping.clio", "other.clio")
 
 
-def explain(message: str, content: bytes | None, first: bytes) -> Iterator[str]:
+def explain(message: str, content: bytes | None, first: bytes) -> Iterator[Piece]:
     """The lines that explain a message `other: ..` on these bytes of other.clio; `first` are those of mapping.clio."""
     if message == "other: other.clio is absent":
         yield from absent()
@@ -66,7 +67,7 @@ def placed_sets(trees: list[SetTree], parent: str = "") -> Iterator[Placed]:
         yield from placed_sets(tree.inner, tree.name)
 
 
-def schemas(one: MappingText, other: MappingText) -> Iterator[str]:
+def schemas(one: MappingText, other: MappingText) -> Iterator[Piece]:
     """The first set in which two schemas differ, and its first clause that does."""
     no_set: Placed = None, ["no set"]
     for side in "source", "target":
@@ -83,17 +84,17 @@ def schemas(one: MappingText, other: MappingText) -> Iterator[str]:
                 yield (f"{name} has {visible(listed[first]) if first < len(listed) else 'no more'}"
                        + (f" in set {tree.name}" if tree and first else ""))
                 if tree is not None:
-                    yield from with_caret(text.content, tree.name.start, len(tree.name))
+                    yield Mark(text.content, tree.name.start, len(tree.name))
             return
 
 
-def conditions(*texts: MappingText) -> Iterator[str]:
+def conditions(*texts: MappingText) -> Iterator[Piece]:
     """The conditions of both mappings."""
     yield "mappings with conditions on rows are not compared; these are there:"
     for name, text in zip(NAMES, texts):
         for one in text.conditions:
             yield f"{name}: only {one.place.set.text}.{one.place.column.text} {one.test.text}"
-            yield from with_caret(text.content, one.place.set.start, len(one.place.set.text))
+            yield Mark(text.content, one.place.set.start, len(one.place.set.text))
 
 
 def conversion(number: int, name: str, content: bytes) -> Iterator[str]:

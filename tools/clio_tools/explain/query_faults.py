@@ -4,8 +4,9 @@ import re
 from collections.abc import Iterator
 
 from clio_tools.explain.mapping_faults import Sides, of_atom, of_character, unclosed
+from clio_tools.explain.pieces import Mark, Piece
 from clio_tools.explain.placed import MappingText, is_told, possible, token_length
-from clio_tools.explain.said import amount, listed, visible, with_caret
+from clio_tools.explain.said import amount, listed, visible
 from clio_tools.mapping.query import Part, parse_query
 from clio_tools.mapping.tables import Table, tables_of
 
@@ -18,7 +19,7 @@ class QueryText:
         self.parts, self.fault = parse_query(content)
 
 
-def explain(message: str, content: bytes | None, mapping: bytes) -> Iterator[str]:
+def explain(message: str, content: bytes | None, mapping: bytes) -> Iterator[Piece]:
     """The lines that explain a message `query: ..` on the query with these bytes, over the target of a mapping."""
     text = MappingText(mapping)
     sides = {"source": tables_of(text.source), "target": tables_of(text.target)}
@@ -40,9 +41,9 @@ def absent(tables: list[Table]) -> Iterator[str]:
                f" query 1; answer({cells}) from {tables[0].name}({cells});")
 
 
-def at_byte(kind: str, place: int, text: QueryText, sides: Sides) -> Iterator[str]:
+def at_byte(kind: str, place: int, text: QueryText, sides: Sides) -> Iterator[Piece]:
     """A fault at a byte: its line with carets, then what stands in its place or what exists."""
-    yield from with_caret(text.content, place, token_length(text.content, place))
+    yield Mark(text.content, place, token_length(text.content, place))
     fault = text.fault if kind in ("unexpected token", "text ended") else None
     if fault and fault.expected and is_told(fault, kind, place):
         yield possible(fault)

@@ -6,10 +6,11 @@ from collections.abc import Callable, Iterator, Sequence
 from clio_tools.csv import records
 from clio_tools.explain.causes import of_values, of_variants
 from clio_tools.explain.joins import Matches, TooMany
+from clio_tools.explain.pieces import Mark, Piece
 from clio_tools.explain.placed import MappingText
 from clio_tools.explain.program import mapping_of
 from clio_tools.explain.query_faults import QueryText
-from clio_tools.explain.said import amount, listed, visible, with_caret
+from clio_tools.explain.said import amount, listed, visible
 from clio_tools.explain.source import Source, file_of
 from clio_tools.explain.ways import number_of_candidates, rules_of_lines
 from clio_tools.mapping.meaning import Mapping, read_mapping
@@ -44,10 +45,10 @@ CURES = {
 }
 
 
-def explain(message: str, content: bytes | None, words: Sequence[str] = ()) -> Iterator[str]:
+def explain(message: str, content: bytes | None, words: Sequence[str] = ()) -> Iterator[Piece]:
     """The lines that explain a message `limit: COUNT N`; either mapping of a comparison may exceed it."""
     count, _, number = message.removeprefix("limit: ").rpartition(" ")
-    parts: dict[str, Callable[[MappingText, int], Iterator[str]]] = {
+    parts: dict[str, Callable[[MappingText, int], Iterator[Piece]]] = {
         "tables": tables, "columns": columns, "depth": depth, "lines": lines, "variants": variants,
         "occurrences": occurrences, "ways": ways, "candidates": candidates, "rules": rules, "data bytes": data_bytes,
         "source cells": source_cells, "target cells": target_cells, "frozen cells": frozen_cells,
@@ -76,13 +77,13 @@ def query_bytes(_: MappingText, number: int) -> Iterator[str]:
     yield f"query.clio has {os.path.getsize('query.clio'):,} bytes; {number:,} can be read"
 
 
-def query_atoms(_: MappingText, number: int) -> Iterator[str]:
+def query_atoms(_: MappingText, number: int) -> Iterator[Piece]:
     """The part that has too many atoms."""
     text = QueryText(pathlib.Path("query.clio").read_bytes())
     for place, part in enumerate(text.parts, 1):
         if len(part.atoms) > number:
             yield f"part {place} has {len(part.atoms)} atoms; {number} are allowed:"
-            yield from with_caret(text.content, part.word.start, len(part.word.text))
+            yield Mark(text.content, part.word.start, len(part.word.text))
             return
 
 
@@ -114,7 +115,7 @@ def tables(text: MappingText, number: int) -> Iterator[str]:
         yield f"the {side} has {amount(len(text.side(side)), 'set')}; {number} are allowed"
 
 
-def columns(text: MappingText, number: int) -> Iterator[str]:
+def columns(text: MappingText, number: int) -> Iterator[Piece]:
     for side in "source", "target":
         for table in text.side(side):
             roots = text.source if side == "source" else text.target
@@ -124,14 +125,14 @@ def columns(text: MappingText, number: int) -> Iterator[str]:
                 with_ids = f" with {' and '.join(ids)}" if ids else ""
                 yield (f"the set {table.name} of the {side} has {amount(len(table.columns) + own, 'column')}{with_ids};"
                        f" {number} are allowed:")
-                yield from with_caret(text.content, table.name.start, len(table.name))
+                yield Mark(text.content, table.name.start, len(table.name))
                 return
 
 
-def depth(text: MappingText, number: int) -> Iterator[str]:
+def depth(text: MappingText, number: int) -> Iterator[Piece]:
     if text.fault and text.fault.kind == "depth":
         yield f"this set would be number {number + 1} of those nested in each other:"
-        yield from with_caret(text.content, text.fault.start, 3)
+        yield Mark(text.content, text.fault.start, 3)
 
 
 def lines(text: MappingText, number: int) -> Iterator[str]:
@@ -152,7 +153,7 @@ def unfolded(tables_: list[Table], number: int, known: dict[int, int]) -> int:
     return known[number]
 
 
-def occurrences(text: MappingText, number: int) -> Iterator[str]:
+def occurrences(text: MappingText, number: int) -> Iterator[Piece]:
     """The tables from which too many follow; else the rule that has too many atoms, or gets them by refs."""
     found = False
     for side, trees in ("source", text.source), ("target", text.target):
@@ -177,7 +178,7 @@ def occurrences(text: MappingText, number: int) -> Iterator[str]:
             yield (f"this hand-written rule has {len(rule.premise)} sets on its left, and with what refs add too many"
                    " on one side:")
             first = text.rules[place].premise[0].name
-            yield from with_caret(text.content, first.start, len(first.text))
+            yield Mark(text.content, first.start, len(first.text))
             return
 
 

@@ -7,9 +7,9 @@ from array import array
 from typing import Any
 
 from clio_tools.csv import MARK, records, text
-from clio_tools.explain.said import shown, visible
 from clio_tools.mapping.meaning import Mapping
 from clio_tools.mapping.tables import Table
+from clio_tools.why.data import SourceRow
 
 Row = tuple[str, ...]
 Place = str | tuple[int, int]  # the path of an object, or the number and the line of a record
@@ -118,17 +118,14 @@ class Source:
             table = self.tables[table.parent]
         return table
 
-    def shown_row(self, number: int, row: int) -> str:
+    def row(self, number: int, row: int) -> SourceRow:
         """A row with its file and its place there."""
         table, place = self.tables[number], self.rows[number].place(row)
-        if isinstance(place, str):
-            where = f"{file_of(self.root(number))}{place}"
-        else:
-            where = f"{file_of(table)}, line {place[1]} (record {place[0]})"
-        cells = [f"{visible(name)} = {shown(value, 40)}"
-                 for name, value in zip(table.columns, self.rows[number].rows[row])
+        path, record, line = (place, 0, 0) if isinstance(place, str) else ("", *place)
+        cells = [(name, text) for name, text in zip(table.columns, self.rows[number].rows[row])
                  if not name.startswith("#")]
-        return f"{where}: " + ", ".join(cells[:8]) + (", .." if len(cells) > 8 else "")
+        return SourceRow(table.name, row, file_of(self.root(number)), line, record, path,
+                         tuple(name for name, _ in cells), tuple(text for _, text in cells))
 
 
 def file_of(table: Table) -> str:

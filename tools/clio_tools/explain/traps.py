@@ -1,16 +1,17 @@
 """Warnings after a run without a refusal: what the manual's traps name. A comment of the mapping switches one off."""
 import pathlib
 import re
-from collections.abc import Iterator
-from typing import NamedTuple
+from collections.abc import Iterable, Iterator
 
 from clio_tools.csv import ends_open, records
 from clio_tools.explain.joins import Matches, TooMany
 from clio_tools.explain.open_keys import is_unknown, open_keys
+from clio_tools.explain.pieces import Piece, RowLine, Warned
 from clio_tools.explain.program import mapping_of
 from clio_tools.explain.quotes import odd_fields
 from clio_tools.explain.said import amount, listed, shown, visible
 from clio_tools.explain.source import Source, file_of
+from clio_tools.mapping import cures
 from clio_tools.mapping.meaning import Mapping, read_mapping
 from clio_tools.mapping.rules import (EXISTENTIAL, LITERAL, VARIABLE, Cell, Conclusion, Premise, Rule, TooLarge,
                                        closed)
@@ -22,16 +23,15 @@ ESCAPED = "a backslash is in front of the quote that closes it, but a quote in a
 BEHIND = "what follows the quote that closes it belongs to the field"
 
 
-class Warned(NamedTuple):
-    """A warning: its name, the set that it is about, and its lines."""
-    name: str
-    set: str
-    lines: list[str]
-
-
 def switched_off(content: bytes) -> set[tuple[str, str]]:
     """The warnings that comments of a mapping text switch off: by name, and by set, or for all sets."""
     return {(found[1], found[2] or "") for found in OFF.finditer(content.decode("utf-8", "replace"))}
+
+
+def wanted(warnings: Iterable[Warned], content: bytes) -> Iterator[Warned]:
+    """The warnings that no comment of a mapping text switches off."""
+    off = switched_off(content)
+    return (one for one in warnings if not off.intersection({(one.name, ""), (one.name, one.set)}))
 
 
 def differs_by_space(text: str, others: set[str]) -> str | None:
@@ -83,7 +83,8 @@ class Traps:
                 if twice:
                     yield Warned("twice", twice[0], [
                         f"rule {number} has {listed(twice)} twice on its {side}, since two ways lead there: is it"
-                        f" meant? If not, leave out a ref, or write rules: {visible(self.printed[number])[:300]}"])
+                        f" meant? If not, leave out a ref, or write rules: {visible(self.printed[number])[:300]}"],
+                        rules=(number,))
 
     def unused_columns(self) -> Iterator[Warned]:
         """Columns of the source that go nowhere and join nothing."""
@@ -128,7 +129,8 @@ class Traps:
                        for atom in rule.conclusion for link in self.target[atom.table].links):
                     yield Warned("ungrouped", table.name, [
                         f"each match of rule {place} makes a row of its own in {table.name}: the rule leaves open the"
-                        f" value by which other rows refer to it, and {table.name} has no other key"])
+                        f" value by which other rows refer to it, and {table.name} has no other key"],
+                        cures.Key(table.name), rules=(place,))
                     break
 
     def is_joined(self, rule: Rule, value: list[Cell], link: Link) -> bool:
@@ -148,7 +150,7 @@ class Traps:
             if line.literal is not None and cells and not any(cell == (LITERAL, line.literal) for cell in cells):
                 yield Warned("literal", table.name, [
                     f"no rule has the text of line {shown(line.literal)} -> {table.name}."
-                    f"{table.columns[line.target.column]}: in each, another line fills the column"])
+                    f"{table.columns[line.target.column]}: in each, another line fills the column"], sets=(table.name,))
 
     def refs_to_no_key(self) -> Iterator[Warned]:
         """Refs of the target that lead to columns which are no key there."""
@@ -156,17 +158,17 @@ class Traps:
             for link in table.every_link()[table.parent is not None:]:
                 other = self.target[link.table]
                 if not any(set(key) <= set(link.referred) for key in other.keys):
-                    referred = listed(other.columns[column] for column in link.referred)
+                    referred = tuple(other.columns[column] for column in link.referred)
                     own = listed(table.columns[column] for column in link.own)
                     yield Warned("no-key", table.name, [
-                        f"ref ({own}) -> {other.name} ({referred}) of {table.name} leads to columns that are no key of"
-                        f" {other.name}: rows that refer to one value may get several rows there, each with nulls of"
-                        " its own"])
+                        f"ref ({own}) -> {other.name} ({listed(referred)}) of {table.name} leads to columns that are no"
+                        f" key of {other.name}: rows that refer to one value may get several rows there, each with"
+                        " nulls of its own"], cures.Key(other.name, referred),
+                        sets=(table.name, other.name))
 
     def open_keys(self) -> Iterator[Warned]:
         """Rows without the key that other rules fill."""
-        for name, line in open_keys(self.mapping, self.printed, self.by_hand):
-            yield Warned("open-key", name, [line])
+        yield from open_keys(self.mapping, self.printed, self.by_hand)
 
     def of_data(self, in_core_mode: bool) -> Iterator[Warned]:
         """What happened to the rows of the source."""
@@ -218,7 +220,7 @@ class Traps:
                 names = listed(there.columns[column] for column in there.keys[key])
                 yield Warned("empty-key", there.name, [
                     f"{count:,} matches ask for a row of {there.name} with nothing in its key ({names}), so it is one"
-                    " row"])
+                    " row"], sets=(there.name,))
 
     def rows_of_nulls(self, in_core_mode: bool) -> Iterator[Warned]:
         """Rows in which nothing is known, as a ref of the target asks for, beside others of their table."""
@@ -235,7 +237,8 @@ class Traps:
                 yield Warned("nulls", table.name, [
                     f"{count:,} of {len(rows):,} rows of {table.name} {'holds' if count == 1 else 'hold'} nothing but"
                     f" nulls, since {fill} no column there: if that isn't meant, {core}make refs to {table.name}"
-                    " optional (mapping 2), or say in a drawing what its rows come from (man clio-rules)"])
+                    " optional (mapping 2), or say in a drawing what its rows come from (man clio-rules)"],
+                    cures.Optional("target", "", (), table.name), rules=(unknown[0],))
 
     def dropped(self, source: Source) -> Iterator[Warned]:
         """Refs of the source that drop rows, and refs that no line uses."""
@@ -247,15 +250,16 @@ class Traps:
                 lost = [place for place, row in enumerate(source.rows[number].rows)
                         if tuple([row[column] for column in link.own]) not in there]
                 if lost:
-                    lines = [f"{self.of_ref(table, link)}: rows of {table.name} without a match there are dropped,"
-                             f" {len(lost):,} of {len(source.rows[number].rows):,}; {self.cure(link)}"]
+                    pieces: list[Piece] = [
+                        f"{self.of_ref(table, link)}: rows of {table.name} without a match there are dropped,"
+                        f" {len(lost):,} of {len(source.rows[number].rows):,}; {self.what_to_do(link)}"]
                     for place in lost[:3]:
-                        lines += self.of_lost(source, number, link, place)
-                    yield Warned("dropped", table.name, lines)
+                        pieces += self.of_lost(source, number, link, place)
+                    yield Warned("dropped", table.name, pieces, self.cure(table, link))
 
-    def of_lost(self, source: Source, number: int, link: Link, place: int) -> Iterator[str]:
+    def of_lost(self, source: Source, number: int, link: Link, place: int) -> Iterator[Piece]:
         """A row that a ref drops, and a value there that only seems to be the same."""
-        yield f"   {source.shown_row(number, place)}"
+        yield RowLine("   ", source.row(number, place))
         for own, referred in zip(link.own, link.referred):
             text = source.rows[number].rows[place][own]
             there = {row[referred] for row in source.rows[link.table].rows}
@@ -270,7 +274,8 @@ class Traps:
             for link in table.links[table.parent is not None:]:
                 if self.is_taken_along(number, link) and not self.is_used(link):
                     yield Warned("dropped", table.name, [
-                        f"{self.of_ref(table, link)}: no line uses it, and rows without a match there are dropped"])
+                        f"{self.of_ref(table, link)}: no line uses it, and rows without a match there are dropped"],
+                        self.cure(table, link))
 
     def of_ref(self, table: Table, link: Link) -> str:
         """A ref, with its set."""
@@ -294,8 +299,15 @@ class Traps:
                 left += [further.table for further in self.source[one].links]
         return any(column.table in reached for line in self.lines for column in line.columns)
 
-    def cure(self, link: Link) -> str:
-        """What to do about a ref that drops rows."""
+    def cure(self, table: Table, link: Link) -> cures.Cure:
+        """The edit by which a ref drops no rows."""
+        own, other = tuple(table.columns[column] for column in link.own), self.source[link.table].name
+        if self.is_used(link):
+            return cures.Optional("source", table.name, own, other)
+        return cures.NoRef("source", table.name, own, other)
+
+    def what_to_do(self, link: Link) -> str:
+        """The same in words."""
         if self.is_used(link):
             return "make the ref optional (mapping 2), and they are taken too"
         return "no line uses the ref: leave it out"
@@ -363,10 +375,6 @@ def all_warnings(words: list[str], content: bytes) -> Iterator[Warned]:
         yield from traps.unused_refs()
 
 
-def explain(words: list[str], content: bytes) -> Iterator[str]:
-    """The lines of the warnings that no comment switches off, each with its name."""
-    off = switched_off(content)
-    for one in all_warnings(words, content):
-        if not off.intersection({(one.name, ""), (one.name, one.set)}):
-            yield f"{one.lines[0]} [{' '.join([one.name, one.set]).strip()}]"
-            yield from one.lines[1:]
+def explain(words: list[str], content: bytes) -> Iterator[Warned]:
+    """The warnings that no comment switches off."""
+    return wanted(all_warnings(words, content), content)

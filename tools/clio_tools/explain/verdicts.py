@@ -10,6 +10,7 @@ from clio_tools.csv import records
 from clio_tools.explain.given_faults import FOLDER
 from clio_tools.explain.joins import Matches, TooMany
 from clio_tools.explain.judged import Judged
+from clio_tools.explain.pieces import Piece, RowLine
 from clio_tools.explain.program import mapping_of
 from clio_tools.explain.said import amount, listed, shown, visible
 from clio_tools.explain.source import Source
@@ -117,14 +118,14 @@ def shown_value(value: str) -> str:
     return visible(value) if is_null(value) else shown(value.removeprefix("?"), 40)
 
 
-def broken_rule(mapping: Mapping, number: int, place: int, given: Given) -> Iterator[str]:
+def broken_rule(mapping: Mapping, number: int, place: int, given: Given) -> Iterator[Piece]:
     """A match of a rule, and which rows that it asks for aren't there."""
     rule, source = mapping.rules[number], Source(mapping)
     matches = Matches(rule, source)
     texts = matches.places()[place]
     chosen = dict.fromkeys((atom.table, row) for atom, row in zip(rule.premise, matches.found[texts][0]))
     for line, (table, row) in enumerate(chosen):
-        yield f"   {' and' if line else 'from'} {source.shown_row(table, row)}"
+        yield RowLine("    and " if line else "   from ", source.row(table, row))
     values = dict(zip(matches.exported, texts))
     lacking: list[str] = []
     for atom in rule.conclusion:
@@ -143,7 +144,7 @@ def shared(rule: Rule, target: list[Table]) -> Iterable[str]:
                          for column, cell in enumerate(atom.cells) if cells.count(cell) > 1)
 
 
-def explain(content: bytes, is_all: bool = False) -> Iterator[str]:
+def explain(content: bytes, is_all: bool = False) -> Iterator[Piece]:
     """The lines that explain the verdict that clio judge prints: its reason, then all differences, of each table the
     first ones unless all are asked for.
     """
@@ -160,7 +161,7 @@ def explain(content: bytes, is_all: bool = False) -> Iterator[str]:
     yield from Judged(mapping, rows, given.lines, is_all).words()
 
 
-def reason(found: re.Match[str], mapping: Mapping, printed: list[str], given: Given) -> Iterator[str]:
+def reason(found: re.Match[str], mapping: Mapping, printed: list[str], given: Given) -> Iterator[Piece]:
     """The reason that the verdict has."""
     if found[1]:
         yield f"rule {found[1]}: {visible(printed[int(found[1])])[:300]}"

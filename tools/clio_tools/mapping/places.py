@@ -3,6 +3,8 @@ import bisect
 from dataclasses import dataclass
 from typing import NamedTuple
 
+from .cures import Cure
+
 
 class Place(NamedTuple):
     """Where a byte is: its number from 0, its line and its column, both from 1; a column is a character."""
@@ -18,13 +20,15 @@ class Fault:
 
     The kind is one of `bad character`, `text ended`, `unexpected token` (as clio's messages have them), `version` (a
     word of a later version of the text), `note` (a word of a drawing in a mapping), `depth`, or `meaning` (the text is
-    well formed, but can't be meant). `expected` has the words and marks that could be in its place."""
+    well formed, but can't be meant). `expected` has the words and marks that could be in its place, `cures` the edits
+    that the words name."""
 
     kind: str
     start: int
     end: int
     said: str
     expected: tuple[str, ...] = ()
+    cures: tuple[Cure, ...] = ()
 
 
 class Text:

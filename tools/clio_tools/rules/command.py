@@ -157,8 +157,8 @@ def _show(asked: argparse.Namespace, folder: pathlib.Path, path: pathlib.Path, c
     if asked.what_lines_say:
         sys.stdout.write(what_lines_say(drawing, made))
         return
-    for said in drawing.remarks:
-        remark("clio-rules", said)
+    for one in drawing.remarks:
+        remark("clio-rules", one.said)
     _look_at_sizes(asked, folder, drawing)
     if asked.write:
         write(folder, made, path.name)

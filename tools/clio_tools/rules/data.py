@@ -19,7 +19,7 @@ def as_data(drawing: Drawing, made: Printed) -> dict[str, Any]:
     rules = [{"rule": rule, "says": said(drawing, one), "rows": one.rows.note.start if one.rows.note else None,
               "lines": [line.start for line in one.lines]} for one, rule in zip(drawing.made, made.rules)]
     return {"sets": sets, "lines": [_line(drawing, line) for line in drawing.tree.lines], "rules": rules,
-            "remarks": drawing.remarks, "faults": []}
+            "remarks": [one.said for one in drawing.remarks], "faults": []}
 
 
 def _rows(drawing: Drawing, rows: Any) -> dict[str, Any]:

@@ -1,5 +1,9 @@
 """What the lines alone say, without notes: the program's own rules."""
+from typing import Optional
+
+from ..mapping.cures import RowsFrom
 from ..mapping.parser import parse
+from ..mapping.places import Fault
 from ..mapping.printing import printed_line, printed_set
 from ..mapping.schema import Table
 from ..mapping.tree import Line, Only, Ref, Rule, SetText
@@ -29,12 +33,13 @@ def circular_refs(drawing: Drawing) -> list[Ref]:
     return [link.ref for table in tables for link in table.links if link.circular and link.ref]
 
 
-def rules_without_notes(drawing: Drawing) -> list[Rule]:
+def rules_without_notes(drawing: Drawing, aside: Optional[list[Fault]] = None) -> list[Rule]:
     """The rules of plain lines for the target sets that have no `rows`, as the program has them.
 
     They are asked for one set after the other, with what it leads to alone: so no rule is left out since one follows
     from it that another set has, and which the notes leave out. The faults of the
-    drawing get one for each set that the program refuses, and the first is raised."""
+    drawing get one for each set that the program refuses, and the first is raised; or they are put aside, and such
+    sets have no rules."""
     found: list[Rule] = []
     refused: list[Wrong] = []
     for table in drawing.targets:
@@ -43,7 +48,9 @@ def rules_without_notes(drawing: Drawing) -> list[Rule]:
                 found += _rules_of_set(drawing, table)
             except Wrong as why:
                 refused.append(why)
-    if refused:
+    if aside is not None:
+        aside += [why.fault for why in refused]
+    elif refused:
         drawing.faults += [why.fault for why in refused]
         raise refused[0]
     return found
@@ -71,7 +78,8 @@ def _refused(drawing: Drawing, table: Table, message: str) -> Wrong:
     whose = f"the lines to {table.name}, which has no `rows`, are refused"
     if all(line.target.set.text != table.name for line in drawing.tree.lines):
         whose = f"{table.name} has no `rows`, and would get rows by the lines to sets that its refs lead to: too many"
-    return wrong(table.text.name, f"{whose} ({message}): say from which set its rows come, rows {table.name} from SET;")
+    return wrong(table.text.name, f"{whose} ({message}): say from which set its rows come, rows {table.name} from SET;",
+                 RowsFrom(table.name))
 
 
 def _root(drawing: Drawing, number: int) -> int:

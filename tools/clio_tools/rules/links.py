@@ -1,4 +1,5 @@
 """Links of the target: for each the way to the source row of which the row is made that the link leads to."""
+from ..mapping.cures import By, Key, LineBy, Optional, RowsFrom, With
 from ..mapping.schema import Link
 from .keys import key_of, settled, ways_for_key
 from .model import Drawing, Rows, Use, Wish
@@ -90,8 +91,8 @@ def _remark_circle(drawing: Drawing, rows: Rows, link: Link) -> None:
         any(column in one.values for one in sets for column in link.own)
     if not filled and rows is sets[0] and rows.note:
         of = drawing.column(rows, link.own[0])
-        drawing.remarks.append(f"no line fills {of}, so it stays open: a ref in a circle takes a line, like line "
-                               f"{drawing.source_of(rows).name} -> {of} by COLUMN;")
+        drawing.remark(rows, f"no line fills {of}, so it stays open: a ref in a circle takes a line, like line "
+                       f"{drawing.source_of(rows).name} -> {of} by COLUMN;")
 
 
 def _use(drawing: Drawing, rows: Rows, wish: Wish) -> Use:
@@ -110,9 +111,9 @@ def _checked(drawing: Drawing, rows: Rows, use: Use) -> Use:
         if ways:
             raise wrong(at, f"{name} leads to {key}, and what makes two rows of {key} one is not there for each "
                         f"{source}: "
-                            f"write rows {key} from {source} with {', '.join(ways)};")
+                            f"write rows {key} from {source} with {', '.join(ways)};", With(key, tuple(ways)))
         raise wrong(at, f"{name} leads to {key}, whose rows from {source} have no key that lines give: each row would "
-                        f"make a {key} of its own. Give set {key} a key of columns that lines fill")
+                        f"make a {key} of its own. Give set {key} a key of columns that lines fill", Key(key))
     return Use(use.link, use.way, other, use.need | of_way(use.way) | other.base.after(use.way), use.line)
 
 
@@ -124,15 +125,20 @@ def _guess(drawing: Drawing, rows: Rows, link: Link) -> None:
     ways = ways or [(way, one) for one in sets for way in drawing.ways.walks(rows.source, one.source)]
     if len({way for way, _ in ways}) > 1 and rows.note:
         listed = " ".join(f"line {drawing.source_of(one).name} -> {of} by {spelled(way)};" for way, one in ways[:6])
-        raise wrong(rows.note.source, f"{of} could lead to {other.name} in several ways: say which, {listed}")
+        table = drawing.target_of(rows)
+        found = [LineBy(drawing.source_of(one).name, table.name, table.columns[link.own[0]], spelled(way))
+                 for way, one in ways[:6]]
+        raise wrong(rows.note.source, f"{of} could lead to {other.name} in several ways: say which, {listed}", *found)
     rows.uses += [_checked(drawing, rows, Use(link, way, one, NOTHING, None)) for way, one in ways]
     if not ways and not link.optional and rows.note:
         if not sets and any(line.target.set.text == other.name for line in drawing.tree.lines):
             raise wrong(rows.note.target, f"{of} leads to {other.name}, and no `rows` says where its rows come from: "
                         f"say "
-                        f"rows {other.name} from SET;")
-        drawing.remarks.append(f"no line fills {of}, so each row of {drawing.target_of(rows).name} asks for a row of "
-                               f"{other.name} with a null there; make the ref optional if that is not meant")
+                        f"rows {other.name} from SET;", RowsFrom(other.name))
+        table = drawing.target_of(rows)
+        drawing.remark(rows, f"no line fills {of}, so each row of {table.name} asks for a row of {other.name} with a "
+                       "null there; make the ref optional if that is not meant",
+                       Optional("target", table.name, tuple(table.named(link.own)), other.name))
 
 
 def _outer_of(drawing: Drawing, rows: Rows) -> Use:
@@ -143,7 +149,7 @@ def _outer_of(drawing: Drawing, rows: Rows) -> Use:
     sets = drawing.noted.get(table.parent, [])
     if not sets:
         raise wrong(note.target, f"{table.name} is in {outer.name}: say from which set the rows of {outer.name} come, "
-                    f"rows {outer.name} from SET;")
+                    f"rows {outer.name} from SET;", RowsFrom(outer.name))
     ways: list[tuple[Way, Rows]] = [((), one) for one in sets if one.source == rows.source and not note.by]
     ways = ways or [(way + rest, one) for way in drawing.ways.along(rows.source, note.by) for one in sets
                     for rest in drawing.ways.walks(drawing.ways.end(rows.source, way), one.source)]
@@ -156,6 +162,6 @@ def _outer_of(drawing: Drawing, rows: Rows) -> Use:
     if len(ways) > 1:
         listed = ", ".join(f"by {spelled(way)}" for way, _ in ways[:6])
         raise wrong(note.source, f"the rows of {table.name} could be in {outer.name} in several ways: say which, "
-                    f"{listed}")
+                    f"{listed}", *[By(spelled(way)) for way, _ in ways[:6]])
     link = next(one for one in table.links if one.is_up)
     return _checked(drawing, rows, Use(link, ways[0][0], ways[0][1], NOTHING, None))

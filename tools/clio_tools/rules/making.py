@@ -1,5 +1,5 @@
 """The rules of each `rows`: one for each different need beyond its base, the empty one included."""
-from ..mapping import tree
+from ..mapping import cures, tree
 from ..mapping.schema import Link
 from .keys import by_use, known, linked, settled, ways_for_key
 from .lookups import looked
@@ -106,14 +106,17 @@ def _keyless(drawing: Drawing, rows: Rows, extra: Need, group: Group) -> Wrong:
     at = line.target.column if line else rows.note.target if rows.note else drawing.tree.version_at
     way = max(extra.ways, key=len, default=())
     known_by = ways_for_key(drawing, rows)
+    found: list[cures.Cure] = [cures.With(table.name, tuple(known_by)) if known_by else cures.Key(table.name)]
     out = ""
     if way and spelled(way) not in known_by:
         out = f", or write `with {spelled(way)}` if rows without one are not meant"
+        found.append(cures.With(table.name, (spelled(way),)))
     if way and group.values and not extra.tests:
         out += f", or `lookup {drawing.ways.name(way[0].table)};`"
+        found.append(cures.Lookup(drawing.ways.name(way[0].table)))
     cure = f"write `with {', '.join(known_by)}`, which its key needs" if known_by else f"give set {table.name} a key"
     return wrong(at, f"{drawing.column(rows, column)} is not there for each {source}, and {table.name} has no key that "
-                 f"lines give, by which the row with it and the row without it are one: {cure}{out}")
+                 f"lines give, by which the row with it and the row without it are one: {cure}{out}", *found)
 
 
 def _check_links(drawing: Drawing, rows: Rows, cells: dict[int, Cell]) -> None:
@@ -129,17 +132,20 @@ def _check_link(drawing: Drawing, rows: Rows, cells: dict[int, Cell], link: Link
     filled = any(use.link is link for use in rows.uses) or any(column in rows.values for column in open_columns)
     if not open_columns or not filled or all(by_use(rows, column) for column in open_columns):
         return
-    of, other = drawing.column(rows, open_columns[0]), drawing.targets[link.table]
+    of, table, other = drawing.column(rows, open_columns[0]), drawing.target_of(rows), drawing.targets[link.table]
     columns = ", ".join(other.named(link.referred))
     if rows.note and not any(set(key) <= set(link.referred) for key in other.keys):
         raise wrong(rows.note.target, f"{of} leads to {other.name} ({columns}), which is no key, so if it isn't filled "
                     f"in "
                     f"the same rule a row of {other.name} would be there twice: give set {other.name} key "
                     f"({columns});, or "
-                    "make the ref optional")
+                    "make the ref optional", cures.Key(other.name, tuple(other.named(link.referred))),
+                    cures.Optional("target", table.name, tuple(table.named(link.own)), other.name))
     ways = [max(use.need.ways - rows.base.ways, key=len, default=()) for use in rows.uses if use.link is link]
     cure = "make it optional"
+    found: list[cures.Cure] = [cures.Optional("target", table.name, tuple(table.named(link.own)), other.name)]
     if len(ways) == 1 and ways[0]:
+        found.insert(0, cures.With(table.name, (spelled(ways[0]),)))
         cure = f"write `with {spelled(ways[0])}`, or make it optional,"
-    drawing.remarks.append(f"the ref of {of} isn't optional, so a row of {drawing.target_of(rows).name} without one "
-                           f"asks for a row of {other.name} of nulls: {cure} if that is not meant")
+    drawing.remark(rows, f"the ref of {of} isn't optional, so a row of {table.name} without one asks for a row of "
+                   f"{other.name} of nulls: {cure} if that is not meant", *found)

@@ -1,8 +1,9 @@
 """A drawing as far as it is worked out: what its notes say of each target set."""
 from dataclasses import dataclass, field
-from typing import Optional
+from typing import NamedTuple, Optional
 
 from ..mapping import tree
+from ..mapping.cures import Cure
 from ..mapping.schema import Link, Schema, Table
 from ..mapping.places import Fault
 from .terms import NOTHING, Cell, Need, Row
@@ -81,6 +82,14 @@ class Made:
         return self.rows.base | self.extra
 
 
+class Remark(NamedTuple):
+    """What a drawing may not be meant to say, of the `rows` at a byte, and the edits that the words name."""
+
+    said: str
+    at: int
+    cures: tuple[Cure, ...]
+
+
 @dataclass
 class Drawing:
     """A drawing with its schemas and what is worked out of it so far."""
@@ -94,7 +103,11 @@ class Drawing:
     looked_up: dict[tuple[int, tuple[int, ...]], Rows] = field(default_factory=dict)
     made: list[Made] = field(default_factory=list)
     faults: list[Fault] = field(default_factory=list)
-    remarks: list[str] = field(default_factory=list)
+    remarks: list[Remark] = field(default_factory=list)
+
+    def remark(self, rows: Rows, said: str, *cures: Cure) -> None:
+        """Remarks something of rows."""
+        self.remarks.append(Remark(said, rows.note.target.start if rows.note else -1, cures))
 
     def target_of(self, rows: Rows) -> Table:
         """The target set of rows."""

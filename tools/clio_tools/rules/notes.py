@@ -3,6 +3,7 @@ from functools import partial
 from typing import Callable, Optional
 
 from ..mapping import tree
+from ..mapping.cures import RowsFrom
 from ..mapping.names import of_conversion, of_set
 from ..mapping.tokens import Token
 from .model import Drawing, Rows, Value, Wish
@@ -135,7 +136,7 @@ def _check_use(drawing: Drawing, line: tree.Line, used: set[int]) -> None:
         if not line.is_plain:
             start = line.arguments[0].set.text if line.arguments else "SET"
             raise wrong(line.target.set, f"this line has a note, so say from which set the rows of {name} come: "
-                        f"rows {name} from {start};")
+                        f"rows {name} from {start};", RowsFrom(name, start if line.arguments else ""))
         return
     if line.start in used:
         return
@@ -202,5 +203,5 @@ def _wishes(drawing: Drawing, line: tree.Line, rows: Rows, column: int, way: Way
     if not others:
         name = drawing.targets[links[0].table].name
         raise wrong(argument.set, f"no row of {name} comes from {argument.set.text}: say rows {name} from "
-                    f"{argument.set.text};")
+                    f"{argument.set.text};", RowsFrom(name, argument.set.text))
     return [Wish(links[0], way, other, need, line) for other in others]

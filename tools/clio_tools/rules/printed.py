@@ -3,6 +3,7 @@ import hashlib
 from typing import Iterator, NamedTuple, Optional, Sequence
 
 from ..mapping import tree
+from ..mapping.places import Fault
 from ..mapping.printing import printed_rule, quoted
 from ..mapping.schema import Table
 from .lines_alone import circular_refs, conditions_of, rules_without_notes
@@ -22,14 +23,16 @@ class Origin(NamedTuple):
 
 
 class Printed:
-    """The text, the files that it takes, and the rules with the words for each."""
+    """The text, the files that it takes, and the rules with the words for each. With `aside` the faults of sets without
+    `rows` are put there, and the text says nothing of these sets."""
 
-    def __init__(self, drawing: Drawing) -> None:
+    def __init__(self, drawing: Drawing, aside: Optional[list[Fault]] = None) -> None:
         self.drawing, self.sets = drawing, TestSets(drawing.source)
         self.comments = Comments(drawing.tree)
         self.rules = [Spelling(drawing, self.sets, made).spelled() for made in drawing.made]
         self.left_out = circular_refs(drawing)
         self.unnoted: list[tree.Rule] = []
+        self.aside = aside
         self.text = self._whole()
 
     def origins(self) -> list[Origin]:
@@ -94,7 +97,7 @@ class Printed:
     # --- rules -------------------------------------------------------------------------------------------------------
 
     def _items(self) -> Iterator[str]:
-        self.unnoted = unnoted = rules_without_notes(self.drawing)
+        self.unnoted = unnoted = rules_without_notes(self.drawing, self.aside)
         if unnoted:
             yield "// What lines alone say of sets without `rows`."
             yield from self._comments_of_unnoted()

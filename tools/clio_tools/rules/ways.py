@@ -3,6 +3,8 @@ from dataclasses import dataclass
 from typing import Sequence
 
 from ..mapping import tree
+from ..mapping.cures import By as ByWay
+from ..mapping.cures import Cure
 from ..mapping.printing import printed_way
 from ..mapping.schema import Schema
 from ..mapping.places import Fault
@@ -19,9 +21,9 @@ class Wrong(Exception):
         self.fault = fault
 
 
-def wrong(at: Token | tree.Part, said: str) -> Wrong:
-    """A refusal that shows a word or a part of the drawing."""
-    return Wrong(Fault("meaning", at.start, at.end, said))
+def wrong(at: Token | tree.Part, said: str, *cures: Cure) -> Wrong:
+    """A refusal that shows a word or a part of the drawing, and the edits that answer it."""
+    return Wrong(Fault("meaning", at.start, at.end, said, cures=cures))
 
 
 @dataclass(frozen=True)
@@ -132,7 +134,7 @@ class Ways:
             listed = ", ".join("by " + spelled(way) for way in ways[:6])
             more = f" and {len(ways) - 6} more" if len(ways) > 6 else ""
             raise wrong(at, f"several ways lead from {self.name(start)} to {self.name(goal)} for {what}: say which, "
-                            f"{listed}{more}")
+                            f"{listed}{more}", *[ByWay(spelled(way)) for way in ways[:6]])
         if by:
             ends = " or ".join(sorted({self.name(self.end(start, way)) for way in begun}))
             raise wrong(by[-1], f"by {printed_way(tuple(by))} leads from {self.name(start)} to {ends}, and from there "

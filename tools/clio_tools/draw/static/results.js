@@ -35,11 +35,11 @@ async function warn(live) {
     return;
   }
   const {warnings, error} = await ask("warnings", {whole: live.whole, run: live.run});
-  if (live === model.live) showWarnings(live, warnings ?? [{name: "", set: "", lines: [error]}]);
+  if (live === model.live) showWarnings(live, warnings ?? [{lines: [{text: error}]}]);
 }
 
 function showWarnings(live, list) {
-  list = [...[...model.drafted, ...(live.remarks ?? [])].map((said) => ({lines: [said]})), ...list];
+  list = [...model.drafted.map((text) => ({lines: [{text}]})), ...(live.remarks ?? []), ...list];
   title("warnings", list.length);
   fill(
       panels.warnings,
@@ -47,7 +47,7 @@ function showWarnings(live, list) {
               list.map(
                   (one) =>
                       h("div", {class: "warning"},
-                        one.lines.map((line) => h("p", {class: line.startsWith("   ") ? "more" : ""}, line.trim())),
+                        one.lines.map((line, place) => h("p", {class: place ? "more" : ""}, line.text.trim())),
                         cureButtons(one.cures))) :
               [h("p", {class: "empty"}, live.fault ? "None while there is a fault." : "None.")]));
 }
