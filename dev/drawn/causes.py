@@ -3,7 +3,7 @@ from __future__ import annotations
 
 from typing import NamedTuple
 
-from clio_tools.picture.svg import LETTER, ROW, document, group, path, rectangle, text_at
+from clio_tools.picture.svg import LETTER, ROW, Element, document, group, path, rectangle, text_at
 
 COMMANDS = ["show", "exchange", "answer", "judge", "compare"]
 ALL, DATA = "show exchange answer judge compare", "exchange answer judge"
@@ -35,15 +35,15 @@ CAUSES = [
 ]
 
 
-def row_of(cause: Cause, y: float) -> str:
+def row_of(cause: Cause, y: float) -> Element:
     """A cause with a dot for each command that asks for it."""
     right = 12 + WIDE + COLUMN * len(COMMANDS)
     parts = [text_at(20, y, cause.asked), text_at(right + 10, y, cause.message),
              text_at(right + 130, y, cause.status)]
     for place, command in enumerate(COMMANDS):
         if command in cause.commands.split(" "):
-            parts.append(f'<circle cx="{12 + WIDE + COLUMN * (place + .5):.0f}" cy="{y:.0f}" r="5" '
-                         'style="fill: var(--c0)"/>')
+            parts.append(Element("circle", {"cx": f"{12 + WIDE + COLUMN * (place + .5):.0f}", "cy": f"{y:.0f}",
+                                            "r": "5", "style": "fill: var(--c0)"}))
     return group("ref", cause.asked, parts)
 
 
@@ -60,8 +60,7 @@ def picture() -> str:
         y = TOP + (number + 1.5) * (ROW + 6)
         parts.append(row_of(cause, y))
         if number:
-            parts.append(path(f"M20 {y - 12:.0f}H{wide - 8:.0f}").replace(
-                "/>", ' style="stroke: var(--edge); opacity: .3"/>'))
+            parts.append(path(f"M20 {y - 12:.0f}H{wide - 8:.0f}").also(style="stroke: var(--edge); opacity: .3"))
     return document(wide + 12, low + 12, "what each command asks for", parts)
 
 

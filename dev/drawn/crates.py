@@ -5,7 +5,7 @@ from __future__ import annotations
 import functools
 from typing import NamedTuple
 
-from clio_tools.picture.svg import LETTER, ROW, document, group, rectangle, text_at
+from clio_tools.picture.svg import LETTER, ROW, Element, document, group, rectangle, text_at
 from drawn.pages import TOP
 from drawn.steps import STEPS
 
@@ -54,7 +54,7 @@ def label_of(crate: str) -> str:
     return crate + "*" * (crate not in needed()) + "".join(f" {number}" for number in numbers)
 
 
-def band(one: Group, y: float) -> tuple[list[str], float]:
+def band(one: Group, y: float) -> tuple[list[Element], float]:
     """A group with its crates in rows, and where it ends."""
     x, low, parts = float(NAME + 16), y + 8, []
     for crate in one.crates:
@@ -63,7 +63,7 @@ def band(one: Group, y: float) -> tuple[list[str], float]:
         if x + wide > WIDE - 8:
             x, low = float(NAME + 16), low + HIGH + 6
         kind = "head" if " " in label else "pill"
-        frame = rectangle(x, low, wide, HIGH, kind, 8).replace("/>", ' style="stroke: var(--edge)"/>')
+        frame = rectangle(x, low, wide, HIGH, kind, 8).also(style="stroke: var(--edge)")
         parts += [frame, text_at(x + 7, low + HIGH / 2, label, "soft" if "*" in label else "")]
         x += wide + 8
     end = low + HIGH + 8

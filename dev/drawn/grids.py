@@ -3,7 +3,7 @@ from __future__ import annotations
 
 from typing import NamedTuple
 
-from clio_tools.picture.svg import LETTER, ROW, curve, document, group, path, rectangle, text_at
+from clio_tools.picture.svg import LETTER, ROW, Element, curve, document, group, path, rectangle, text_at
 
 Cell = tuple[str, int, str]  # a table, a row from 0, a column
 HALO = "paint-order: stroke; stroke: var(--box); stroke-width: 4px; stroke-linejoin: round"  # paths go behind texts
@@ -59,14 +59,14 @@ class Layout:
         x, y = self.at[one[0]]
         return x + sum(self.widths[one[0]][:place + end]) - (6 if end else -3), y + (one[1] + 2) * ROW + ROW / 2
 
-    def box(self, grid: Grid) -> list[str]:
+    def box(self, grid: Grid) -> list[Element]:
         """A table without its texts."""
         x, y = self.at[grid.name]
         wide = sum(self.widths[grid.name])
         return [rectangle(x, y, wide, (len(grid.rows) + 2) * ROW + 4, "box"), rectangle(x, y, wide, ROW, "head"),
                 text_at(x + 8, y + ROW / 2, grid.name, "title")]
 
-    def texts(self, grid: Grid) -> list[str]:
+    def texts(self, grid: Grid) -> list[Element]:
         """The names of the columns, and the cells."""
         x, y = self.at[grid.name]
         parts = []
@@ -79,7 +79,7 @@ class Layout:
                                      if faint else ""))
         return parts
 
-    def struck(self, grid: Grid) -> list[str]:
+    def struck(self, grid: Grid) -> list[Element]:
         """What strikes rows out."""
         x, y = self.at[grid.name]
         wide = sum(self.widths[grid.name]) - 10
@@ -102,10 +102,10 @@ class Layout:
         for start, goal in self.figure.steps:
             parts.append(group("ref optional", "a step", [path(self.step(start, goal), "way")]))
         for number, (start, goal) in enumerate(self.figure.values):
-            parts.append(group("line", "a value", [path(curve(*self.cell(start, True), *self.cell(goal, False)))],
-                               f"color: var(--c{number})"))
+            parts.append(group(f"line c{number}", "a value",
+                               [path(curve(*self.cell(start, True), *self.cell(goal, False)))]))
         for grid in self.figure.grids:
-            parts.append(group("", grid.name, self.texts(grid), HALO))
+            parts.append(group("", grid.name, self.texts(grid)).also(style=HALO))
             parts.append(group("ref", grid.name, self.struck(grid)))
         return document(max(self.right + 12, len(self.figure.title) * LETTER * 1.1 + 24), self.low - 14,
                         self.figure.title, parts)

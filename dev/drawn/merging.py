@@ -4,7 +4,7 @@ from __future__ import annotations
 
 from typing import NamedTuple
 
-from clio_tools.picture.svg import LETTER, ROW, document, group, path, rectangle, text_at
+from clio_tools.picture.svg import LETTER, ROW, Element, document, group, path, rectangle, text_at
 from drawn.pages import Tables, example, exchanged, first_example, without_keys
 
 Rows = list[list[str]]
@@ -39,11 +39,11 @@ class Side:
             y += (len(rows) + 1) * ROW + 4 + GAP
         self.low = y - GAP
 
-    def drawn(self) -> list[str]:
+    def drawn(self) -> list[Element]:
         """All tables."""
         return [group("ref", name, self.table(name, rows)) for name, rows in self.tables.items()]
 
-    def table(self, name: str, rows: Rows) -> list[str]:
+    def table(self, name: str, rows: Rows) -> list[Element]:
         """One table."""
         y, widths = self.at[name], widths_of(rows)
         parts = [rectangle(self.x, y, sum(widths), (len(rows) + 1) * ROW + 4, "box"),
@@ -56,9 +56,9 @@ class Side:
                 left += width
         return parts
 
-    def arcs(self) -> list[str]:
+    def arcs(self) -> list[Element]:
         """An arrow from each replaced null to its value, where both are in one column of a table."""
-        made: list[str] = []
+        made: list[Element] = []
         for name, rows in self.tables.items():
             for column in range(len(rows[0])):
                 cells = [row[column] for row in rows]
@@ -69,7 +69,7 @@ class Side:
                         made.append(self.arc(name, column, number, goal, len(made)))
         return made
 
-    def arc(self, name: str, column: int, start: int, goal: int, number: int) -> str:
+    def arc(self, name: str, column: int, start: int, goal: int, number: int) -> Element:
         """An arrow round the left side of the first column, or else round the right side of the table."""
         rows = self.tables[name]
         side = -1 if column == 0 else 1
@@ -78,8 +78,8 @@ class Side:
         bend = x + side * (ARC - 6 + 5 * (number % 3))
         tip = f"M{x:.0f} {end:.1f}l{side * 7} -4v8z"
         way = f"M{x:.0f} {begin:.1f}C{bend:.0f} {begin:.1f} {bend:.0f} {end:.1f} {x + side * 5:.0f} {end:.1f}"
-        return group("line", f"{rows[start][column]} becomes {rows[goal][column]}",
-                     [path(way), f'<path d="{tip}" style="fill: currentColor"/>'], "color: var(--key)")
+        return group("line key", f"{rows[start][column]} becomes {rows[goal][column]}",
+                     [path(way), path(tip).also(style="fill: currentColor")])
 
 
 def drawn(merge: Merge) -> str:

@@ -3,7 +3,7 @@ from __future__ import annotations
 
 from typing import NamedTuple
 
-from clio_tools.picture.svg import ROW, document, group, path, rectangle, text_at
+from clio_tools.picture.svg import ROW, Element, document, group, path, rectangle, text_at
 
 WIDE, HIGH, DOWN, LEFT, OTHER = 236, 44, 74, 26, 322
 
@@ -40,30 +40,29 @@ def top_of(row: int) -> float:
     return 40 + row * DOWN - (24 if row else 0)
 
 
-def box(step: Step) -> str:
+def box(step: Step) -> Element:
     """A step with its call."""
     y = top_of(step.row)
-    style = ' style="stroke-dasharray: 4 3"' if step.core else ""
-    frame = rectangle(step.x, y, WIDE, HIGH, "box").replace("/>", f"{style}/>")
+    frame = rectangle(step.x, y, WIDE, HIGH, "box").also(**{"style": "stroke-dasharray: 4 3"} if step.core else {})
     parts = [frame, text_at(step.x + 10, y + 13, step.name, "title"), text_at(step.x + 10, y + 31, step.call, "soft")]
     if step.core:
         parts.append(text_at(step.x + WIDE - 8, y + 13, "--core", "only", "end"))
     return group("ref", step.name, parts)
 
 
-def arrow(x: float, start: float, goal: float, label: str) -> str:
+def arrow(x: float, start: float, goal: float, label: str) -> Element:
     """An arrow down, with what goes along."""
     return group("ref", label, [path(f"M{x:.0f} {start:.0f}V{goal - 5:.0f}"),
                                 path(f"M{x:.0f} {goal:.0f}l-4 -7h8z", "tip"),
                                 text_at(x + 10, (start + goal) / 2, label, "soft")])
 
 
-def part(name: str, first: int, last: int) -> list[str]:
+def part(name: str, first: int, last: int) -> list[Element]:
     """A call that takes several steps: a line beside them, with its name upright."""
     y, low = top_of(first), top_of(last) + HIGH
-    return [path(f"M{LEFT - 8} {y:.0f}h-4V{low:.0f}h4").replace("/>", ' style="fill: none; stroke: var(--edge)"/>'),
-            text_at(0, 0, name, "soft", "middle").replace(
-                "<text ", f'<text transform="translate({LEFT - 18} {(y + low) / 2:.0f}) rotate(-90)" ')]
+    return [path(f"M{LEFT - 8} {y:.0f}h-4V{low:.0f}h4").also(style="fill: none; stroke: var(--edge)"),
+            text_at(0, 0, name, "soft", "middle").also(
+                transform=f"translate({LEFT - 18} {(y + low) / 2:.0f}) rotate(-90)")]
 
 
 def picture() -> str:
@@ -79,8 +78,8 @@ def picture() -> str:
         if step.x == OTHER:
             low = top_of(4) + HIGH / 2
             parts.append(group("ref", step.gives, [
-                path(f"M{other:.0f} {top_of(3) + HIGH:.0f}V{low:.0f}H{LEFT + WIDE + 6}").replace(
-                    "/>", ' style="fill: none"/>'), path(f"M{LEFT + WIDE} {low:.0f}l7 -4v8z", "tip"),
+                path(f"M{other:.0f} {top_of(3) + HIGH:.0f}V{low:.0f}H{LEFT + WIDE + 6}").also(
+                    style="fill: none"), path(f"M{LEFT + WIDE} {low:.0f}l7 -4v8z", "tip"),
                 text_at(other + 10, low, step.gives, "soft")]))
             parts.append(arrow(other, top_of(2) + 44, top_of(3), ""))
         else:

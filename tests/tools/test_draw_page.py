@@ -1,17 +1,24 @@
 """clio-draw's page in Chromium: drawing, both ways in step, undo, saving, reasons, proposals, the keyboard, hostile texts
 and large mappings."""
 import json
+import re
+import subprocess
 import time
 import unittest
 
 import draw_trial
 from draw_page import Page
+from trial import TOOLS
 
 CURVE = """(() => { const p = document.querySelector('#curves [data-line="0"] .thin');
 const q = p.getPointAtLength(p.getTotalLength() / 3), r = document.getElementById('curves').getBoundingClientRect();
 return [q.x + r.x, q.y + r.y] })()"""
 COLOUR = "getComputedStyle(document.querySelector('%s')).backgroundColor"
 SELECTED = "(() => { const t = document.getElementById('text'); return t.value.slice(t.selectionStart, t.selectionEnd) })()"
+PATHS = "[...document.querySelectorAll('#picture-paper path')].map((path) => path.getAttribute('d'))"
+IN_PICTURE = """(() => { const p = document.querySelector('#picture-paper [data-line="1"] path:not(.wide)');
+const q = p.getPointAtLength(p.getTotalLength() / 3), r = p.ownerSVGElement.getBoundingClientRect();
+return [q.x + r.x, q.y + r.y] })()"""
 SAY = "(document.getElementById('whole').textContent = '%s', document.getElementById('status').textContent = '%s', 1)"
 PLACE = """(() => { const r = document.querySelector('#target .row').getBoundingClientRect();
 return [r.x, r.y, document.documentElement.scrollWidth] })()"""
@@ -173,6 +180,20 @@ class Drawing(Page):
         self.browser.click("#save")
         self.browser.until("document.getElementById('status').textContent === 'saved'")
         self.assertTrue((folder / "mapping.clio").read_text().startswith("// mine"))
+
+
+    def test_picture(self) -> None:
+        """It is that of clio-picture, and a click on a line selects it."""
+        folder = draw_trial.copy_of("teams")
+        self.open(folder)
+        self.browser.click("#show-picture")
+        self.browser.until("document.getElementById('picture').open")
+        ended = subprocess.run(["python3", "-B", TOOLS / "clio-picture", folder], check=True, capture_output=True)
+        self.assertEqual(self.browser.js(PATHS), re.findall(r'<path d="([^"]*)"', ended.stdout.decode()))
+        place = self.browser.js(IN_PICTURE)
+        self.browser.click_at((place[0], place[1]))
+        self.browser.until("clioDraw.model.selection?.kind === 'line' && clioDraw.model.selection.index === 1")
+        self.assertFalse(self.browser.js("document.getElementById('picture').open"))
 
 
 class Steady(Page):

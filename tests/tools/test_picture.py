@@ -8,6 +8,7 @@ import xml.etree.ElementTree as tree
 
 from trial import TIMES, Trial
 
+from clio_tools.draw.pictures import picture
 from clio_tools.picture.ordering import crossings, ordered
 from clio_tools.picture.boxes import Box, stacked
 from clio_tools.picture.lines import Refs
@@ -37,6 +38,15 @@ line emp.ename -> staff.name;
 only emp.pay filled;
 only mail.mname filled;
 only emp.pay numeric;
+"""
+DRAWN = """mapping 1;
+source { set emp { id, name, mgr; ref (mgr) -> emp (id); } }
+target { set person { pid, name, boss, kind, day; key (name); ref (boss) -> person (pid); } }
+rows person from emp;
+line emp.name -> person.name;
+line emp -> person.boss by mgr;
+line "<b>" -> person.kind where name = "x";
+line trim(emp.name by mgr) -> person.day;
 """
 DEPENDENT = """mapping 3;
 source { set a { zip, town; } }
@@ -104,6 +114,30 @@ class Pictures(Trial):
                    if one.text in ("street", "zip", "town", "land")]
         self.assertTrue(max(columns) < heights[0] < heights[1] < low)
 
+    def test_a_drawing_has_its_notes(self) -> None:
+        """As the page of clio-draw shows it: what stands on lines, and a line from the head of a set's box."""
+        found: dict[str, list[str]] = {}
+        heads: list[str] = []
+
+        def look(one: object) -> None:
+            assert isinstance(one, list)
+            tag, attributes, inside = one
+            self.assertNotIn("style", attributes)
+            if "data-line" in attributes:
+                found[attributes["data-line"]] = [each[2][0] for each in inside if each[0] in ("title", "text")]
+                if attributes["data-line"] == "1":
+                    heads.extend(each[1]["d"] for each in inside if "C" in each[1].get("d", ""))
+            for each in inside:
+                if isinstance(each, list):
+                    look(each)
+
+        look(picture(DRAWN, "x", None)["picture"])
+        self.assertEqual(found, {
+            "0": ["line emp.name -> person.name"], "1": ["line emp -> person.boss by mgr", "by mgr"],
+            "2": ['line "<b>" -> person.kind where name = "x"', '"<b>" where name = "x"'],
+            "3": ["line trim(emp.name by mgr) -> person.day", "trim by mgr"]})
+        self.assertEqual({curve.split("C")[0].split(" ")[1] for curve in heads}, {"63.0"})  # below the top, half a head
+
     def test_tool(self) -> None:
         self.file("mapping.clio", HOSTILE)
         tree.fromstring(self.printed("clio-picture"))
@@ -133,7 +167,7 @@ class Pictures(Trial):
         places, width, _ = stacked(boxes, 0, 0)
         for one, other in zip(boxes, boxes[1:]):
             self.assertLess(one.y + one.height(), other.y)
-        self.assertEqual(len(places), sum(len(table.tree.columns) for table in tables))
+        self.assertEqual(len(places), sum(1 + len(table.tree.columns) for table in tables))
         self.assertEqual(len(set(places.values())), len(places))
         for box in boxes:
             self.assertLessEqual(box.width(), width)

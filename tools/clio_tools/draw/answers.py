@@ -50,7 +50,7 @@ class Answers:
             "groups": Asked(self.of_run("groups"), {**run, "table": str}),
             "forward": Asked(self.of_run("forward"), {**run, "table": str, "row": int}),
             "more": Asked(self.of_run("more"), {**run, "table": str, "start": int}),
-            "arrange": Asked(self.job("arrange"), {"text": str}),
+            "arrange": Asked(self.job("arrange"), {"text": str}), "picture": Asked(self.job("picture"), {"text": str}),
             "proposals": Asked(self.job("proposals"), {"text": str}),
             "draft": Asked(self.draft, {"text": str, "kind": str, "place": str, "schema": str, "side": str,
                                         "drawing": bool, "data": bool}),

@@ -11,6 +11,7 @@ import secrets
 import sys
 from collections.abc import Callable
 
+from ..picture.svg import STYLE
 from ..program import remark
 from .answers import Answers, Unknown, Wrong
 
@@ -44,6 +45,7 @@ class Server(http.server.ThreadingHTTPServer):
         self.answers = answers
         self.secret = secrets.token_urlsafe(24)
         self.files = {path.name: path.read_bytes() for path in STATIC.iterdir() if path.suffix in KINDS}
+        self.files["picture.css"] = STYLE.encode()
         super().__init__(("127.0.0.1", port), Handler)
         self.hosts = {f"{name}:{self.server_port}" for name in ("127.0.0.1", "localhost")}
 

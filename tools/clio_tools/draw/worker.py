@@ -8,15 +8,13 @@ import sys
 from collections.abc import Callable
 from typing import Any
 
-from ..picture.boxes import Box
-from ..picture.lines import edges_of
-from ..picture.ordering import ordered
 from ..program import Refused
 from .choices import choices
 from .drafting import drafted
 from .live import Live
 from .meant import bare
 from .outline import Data
+from .pictures import order, picture
 from .proposals import Proposals
 from .running import Runner, Stopped
 
@@ -40,7 +38,7 @@ class Worker:
         self.jobs: dict[str, Callable[..., Data]] = {
             "live": self.live.run, "more": self.live.more, "warnings": self.live.warnings, "why": self.live.why,
             "groups": self.live.groups, "sources": self.live.sources, "examples": self.live.examples,
-            "forward": self.live.forward, "arrange": self.arrange,
+            "forward": self.live.forward, "arrange": order, "picture": self.picture,
             "proposals": self.proposals, "ways": self.ways,
             "draft": self.draft}
 
@@ -60,11 +58,7 @@ class Worker:
 
     def proposals(self, text: str) -> Data:
         """Lines that could be meant."""
-        try:
-            mapping = bare(text.encode())
-        except Refused as why:
-            return {"error": str(why)}
-        return {"proposals": Proposals(mapping, self.folder).made()[:MOST_PROPOSALS]}
+        return {"proposals": Proposals(bare(text.encode()), self.folder).made()[:MOST_PROPOSALS]}
 
     def ways(self, text: str, source: list[str | None], target: list[str]) -> Data:
         """The ways that a line could go, with a row of each."""
@@ -74,19 +68,12 @@ class Worker:
         """A side drafted from what is elsewhere."""
         return drafted(**words, folder=self.folder)
 
-    @staticmethod
-    def arrange(text: str) -> Data:
-        """The sets of both sides in an order in which few lines cross: that of clio-picture."""
-        try:
-            mapping = bare(text.encode())
-        except Refused as why:
-            return {"error": str(why)}
-        sides = [[Box(tables, number, {}, {}) for number, table in enumerate(tables) if table.parent is None]
-                 for tables in (mapping.source, mapping.target)]
-        left, right = [[(box.number, box.ports()) for box in boxes] for boxes in sides]
-        found = ordered(left, right, edges_of(mapping.lines))
-        return {side: [tables[number].name for number, _ in boxes]
-                for side, tables, boxes in zip(("source", "target"), (mapping.source, mapping.target), found)}
+    def picture(self, text: str) -> Data:
+        """The text as clio-picture would draw it; rules by hand have the numbers of the last run if it was of this
+        text."""
+        live = self.live
+        is_last = live.mapping is not None and live.content == text.encode() and not live.meant.is_drawing
+        return picture(text, self.folder.name, live.printed if is_last else None)
 
 
 def main() -> None:

@@ -2,9 +2,10 @@
 from collections.abc import Iterator
 
 from clio_tools.mapping.tables import Table
-from clio_tools.picture.svg import LETTER, ROW, cut, group, rectangle, text_at
+from clio_tools.picture.svg import LETTER, ROW, Element, cut, group, rectangle, text_at
 
-Port = tuple[int, int]  # the numbers of a table and of a column
+WHOLE = -1
+Port = tuple[int, int]  # the numbers of a table and of a column; WHOLE is the head of the table's box
 Places = dict[Port, float]  # the middle heights of columns
 Tests = dict[Port, list[str]]  # what conditions ask of columns
 
@@ -59,8 +60,9 @@ class Box:
         return [(self.number, column) for column, _ in self.columns] + inside
 
     def place(self, x: float, y: float, width: float) -> None:
-        """Puts the box at a place; `places` gets for each column its middle height."""
+        """Puts the box at a place; `places` gets for its head and each column its middle height."""
         self.x, self.y, self.wide = x, y, width
+        self.places[self.number, WHOLE] = y + HEAD / 2
         y += HEAD
         for column, _ in self.columns:
             self.places[self.number, column] = y + self.heights[column] / 2
@@ -72,7 +74,7 @@ class Box:
             self.places.update(inner.places)
             y += inner.height() + 8
 
-    def drawn(self) -> Iterator[str]:
+    def drawn(self) -> Iterator[Element]:
         """The box in SVG."""
         yield rectangle(self.x, self.y, self.wide, self.height(), "box")
         yield rectangle(self.x + .5, self.y + .5, self.wide - 1, HEAD - 2, "head")
@@ -91,8 +93,8 @@ class Box:
 
 
 def stacked(boxes: list[Box], x: float, y: float) -> tuple[Places, float, float]:
-    """Puts boxes below each other, all as wide as the widest; answers the places of all columns, the width and the
-    end.
+    """Puts boxes below each other, all as wide as the widest; answers the places of all heads and columns, the width
+    and the end.
     """
     width = max((box.width() for box in boxes), default=120.0)
     places: Places = {}

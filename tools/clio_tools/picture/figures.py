@@ -8,7 +8,7 @@ from clio_tools.mapping.meaning import Mapping
 from clio_tools.mapping.printing import quoted
 from clio_tools.mapping.rules import EXISTENTIAL, Cell, Rule
 from clio_tools.mapping.tables import Table
-from clio_tools.picture.svg import LETTER, PALETTE, ROW, cut, curve, group, path, pill, rectangle, text_at
+from clio_tools.picture.svg import LETTER, PALETTE, ROW, Element, cut, curve, group, path, pill, rectangle, text_at
 
 HEAD = 22
 GAP = 10
@@ -36,7 +36,7 @@ class AtomBox:
         """As high as its rows need."""
         return HEAD + len(self.rows) * ROW + 4
 
-    def drawn(self, x: float, y: float, width: float) -> Iterator[str]:
+    def drawn(self, x: float, y: float, width: float) -> Iterator[Element]:
         """The box in SVG."""
         yield rectangle(x, y, width, self.height(), "box")
         yield rectangle(x + .5, y + .5, width - 1, HEAD - 2, "head")
@@ -79,7 +79,7 @@ class Figure:
         """As high as its higher side."""
         return 26 + max(sum(box.height() + GAP for box in boxes) for boxes in (self.left, self.right))
 
-    def drawn(self, x: float, y: float) -> Iterator[str]:
+    def drawn(self, x: float, y: float) -> Iterator[Element]:
         """The figure in SVG, its upper left corner here."""
         left, right = self.sides()
         begin, end = x + 30 + left, x + 30 + left + self.middle
@@ -95,7 +95,7 @@ class Figure:
         yield from self.beside([(int(cell.content), height) for cell, height in to_there if cell.kind == EXISTENTIAL],
                                end + right, 1)
 
-    def column(self, boxes: list[AtomBox], x: float, y: float, width: float) -> Generator[str, None, list[list[float]]]:
+    def column(self, boxes: list[AtomBox], x: float, y: float, width: float) -> Generator[Element, None, list[list[float]]]:
         """Draws atoms below each other; answers the heights of their cells."""
         heights = []
         for box in boxes:
@@ -105,14 +105,14 @@ class Figure:
         return heights
 
     def across(self, asked: list[tuple[int, float]], made: list[tuple[Cell, float]],
-               between: tuple[float, float]) -> Iterator[str]:
+               between: tuple[float, float]) -> Iterator[Element]:
         """Joins each variable of the left with its places on the right; a conversion is a label between them."""
         begin, end = between
         first = dict(reversed(asked))
         for cell, height in made:
             if cell.kind == EXISTENTIAL or isinstance(cell.content, str):
                 continue
-            parts: list[str] = []
+            parts: list[Element] = []
             origins: tuple[int, ...] = (cell.content,)
             stop, title = end, self.names.get(cell.content, "")
             if cell.content >= self.first:
@@ -120,13 +120,13 @@ class Figure:
                 origins = self.rule.derived[place].arguments
                 title = f"{self.text.derived[place].name.text} = {self.call(place)}"
                 drawn, stop = pill(end - 16, height, self.call(place))
-                parts = [path(f"M{end - 16:.0f} {height:.1f}H{end:.0f}"), drawn]
+                parts = [path(f"M{end - 16:.0f} {height:.1f}H{end:.0f}"), *drawn]
             for origin in origins:
                 bend = curve(begin, first[origin], stop, height)
                 parts = [path(bend, "wide"), path(bend), *parts]
-            yield group("line", title, parts, f"color: var(--c{cell.content % PALETTE})")
+            yield group(f"line c{cell.content % PALETTE}", title, parts)
 
-    def beside(self, cells: Iterable[tuple[int, float]], x: float, direction: int) -> Iterator[str]:
+    def beside(self, cells: Iterable[tuple[int, float]], x: float, direction: int) -> Iterator[Element]:
         """Joins cells of one side that have the same variable, by a bow beside the boxes."""
         places: dict[int, list[float]] = {}
         for variable, height in cells:
@@ -135,17 +135,18 @@ class Figure:
             for one, other in zip(heights, heights[1:]):
                 bow = x + direction * (18 + 5 * (number % 3))
                 bend = f"M{x:.0f} {one:.1f}C{bow:.0f} {one:.1f} {bow:.0f} {other:.1f} {x:.0f} {other:.1f}"
-                yield group("line", "the same value", [path(bend, "wide"), path(bend)],
-                            f"color: var(--c{variable % PALETTE})")
+                yield group(f"line c{variable % PALETTE}", "the same value", [path(bend, "wide"), path(bend)])
 
 
-def flowed(figures: Iterable[Figure], x: float, y: float, width: float) -> Generator[str, None, tuple[float, float]]:
-    """Draws figures beside and below each other, as they fit; answers the width and the height that they take."""
+def flowed(figures: Iterable[Figure], x: float, y: float,
+           width: float) -> tuple[list[tuple[Figure, float, float]], float, float]:
+    """Figures with places beside and below each other, as they fit; and the width and the height that they take."""
     left, high, widest = x, 0.0, 0.0
+    placed: list[tuple[Figure, float, float]] = []
     for figure in figures:
         if left > x and left + figure.width() > x + width:
             left, y, high = x, y + high + 24, 0.0
-        yield from figure.drawn(left, y)
+        placed.append((figure, left, y))
         left += figure.width() + 30
         high, widest = max(high, figure.height()), max(widest, left)
-    return widest, y + high
+    return placed, widest, y + high

@@ -1,4 +1,4 @@
-"""The lines of a mapping, and the refs of a side."""
+"""The lines of a mapping, and the refs of a side: first where they are, then in SVG."""
 from collections.abc import Iterable, Iterator
 from typing import NamedTuple
 
@@ -6,30 +6,48 @@ from clio_tools.mapping.meaning import Column, Line, Mapping
 from clio_tools.mapping.printing import quoted
 from clio_tools.mapping.tables import Table
 from clio_tools.picture.boxes import Places, Port
-from clio_tools.picture.svg import LETTER, PALETTE, ROW, cut, curve, group, path, pill
+from clio_tools.picture.svg import LETTER, PALETTE, ROW, Element, curve, cut, group, path, pill
 
 LANE = 9
+LABEL = 24  # letters of a text on a line
+
+
+class Joined(NamedTuple):
+    """A line: the columns that it joins, what stands on it, its words, and its number in the text, if it has one there.
+
+    The left end of a line from a whole set is the head of its box."""
+
+    columns: tuple[Port, ...]
+    target: Port
+    label: str | None
+    title: str
+    number: int | None = None
+
+
+def joined(mapping: Mapping) -> list[Joined]:
+    """The lines of a mapping text."""
+    return [Joined(line.columns, line.target, label_of(line), spelled(line, mapping)) for line in mapping.lines]
 
 
 def label_of(line: Line) -> str | None:
     """What stands on a line: its text, or its conversion."""
     if line.literal is not None:
-        return cut(quoted(line.literal), 24)
+        return cut(quoted(line.literal), LABEL)
     return line.conversion
 
 
-def heights_of(lines: Iterable[Line]) -> dict[Port, int]:
+def heights_of(lines: Iterable[Joined]) -> dict[Port, int]:
     """For each column of the target how many lines with a label lead to it."""
     heights: dict[Port, int] = {}
     for line in lines:
-        if label_of(line):
+        if line.label:
             heights[line.target] = heights.get(line.target, 0) + 1
     return heights
 
 
-def edges_of(lines: Iterable[Line]) -> list[tuple[Port, Port]]:
-    """The pairs of columns that lines join."""
-    return [(column, line.target) for line in lines for column in line.columns]
+def edges_of(lines: Iterable[Joined]) -> list[tuple[Port, Port]]:
+    """The pairs of columns that lines join; the head of a set counts as its first column."""
+    return [((table, max(column, 0)), line.target) for line in lines for table, column in line.columns]
 
 
 def name_of(tables: list[Table], column: Column) -> str:
@@ -47,54 +65,71 @@ def spelled(line: Line, mapping: Mapping) -> str:
     return f"line {origin} -> {name_of(mapping.target, line.target)}"
 
 
+class LineShape(NamedTuple):
+    """Where a line is: its curves, and its label with its right end; and its color by number, if it has one."""
+
+    line: Joined
+    curves: list[str]
+    label: tuple[float, float, str] | None
+    color: int | None
+
+    def drawn(self) -> Element:
+        """The line in SVG."""
+        parts: list[Element] = []
+        if self.label:
+            right, height, text = self.label
+            parts = [path(f"M{right:.0f} {height:.1f}H{right + 18:.0f}"), *pill(right, height, text)[0]]
+        for place in self.curves:
+            parts = [path(place, "wide"), path(place), *parts]
+        return group("line soft" if self.color is None else f"line c{self.color}", self.line.title, parts,
+                     self.line.number)
+
+
 class Lines:
     """The lines between two sides whose columns have their places."""
 
-    def __init__(self, mapping: Mapping, left: Places, right: Places, between: tuple[float, float]) -> None:
-        self.mapping, self.left, self.right = mapping, left, right
+    def __init__(self, lines: list[Joined], source: list[Table], left: Places, right: Places,
+                 between: tuple[float, float]) -> None:
+        self.lines, self.source, self.left, self.right = lines, source, left, right
         self.begin, self.end = between
         self.heights = self.label_heights()
-        labels = [len(label) * LETTER + 42 for line in mapping.lines if (label := label_of(line))]
+        labels = [len(line.label) * LETTER + 42 for line in lines if line.label]
         self.level = self.end - max(labels, default=0)  # from here on lines are level, so that none crosses a label
 
     def label_heights(self) -> dict[int, float]:
         """Where the label of each line is: below each other, in the order of what they are from."""
         labelled: dict[Port, list[int]] = {}
-        for number, line in enumerate(self.mapping.lines):
-            if label_of(line):
+        for number, line in enumerate(self.lines):
+            if line.label:
                 labelled.setdefault(line.target, []).append(number)
         heights: dict[int, float] = {}
         for target, numbers in labelled.items():
-            numbers.sort(key=lambda number: [self.left[column] for column in self.mapping.lines[number].columns])
+            numbers.sort(key=lambda number: [self.left[column] for column in self.lines[number].columns])
             top = self.right[target] - ROW * (len(numbers) - 1) / 2
             heights.update({number: top + ROW * place for place, number in enumerate(numbers)})
         return heights
 
-    def color(self, line: Line) -> str:
+    def color(self, line: Joined) -> int | None:
         """A color for each root of the source."""
         if not line.columns:
-            return "color: var(--soft)"
-        table = line.columns[0].table
-        while (parent := self.mapping.source[table].parent) is not None:
+            return None
+        table = line.columns[0][0]
+        while (parent := self.source[table].parent) is not None:
             table = parent
-        roots = [number for number, one in enumerate(self.mapping.source) if one.parent is None]
-        return f"color: var(--c{roots.index(table) % PALETTE})"
+        roots = [number for number, one in enumerate(self.source) if one.parent is None]
+        return roots.index(table) % PALETTE
 
-    def drawn(self) -> Iterator[str]:
-        """Each line in SVG."""
-        for number, line in enumerate(self.mapping.lines):
-            label, end, height = label_of(line), self.end, self.right[line.target]
-            parts: list[str] = []
-            if label:
+    def shapes(self) -> Iterator[LineShape]:
+        """Where each line is."""
+        for number, line in enumerate(self.lines):
+            end, height, label = self.end, self.right[line.target], None
+            if line.label:
                 height = self.heights[number]
-                drawn, begin = pill(self.end - 18, height, label)
-                parts.append(path(f"M{self.end - 18:.0f} {height:.1f}H{self.end:.0f}"))
-                parts.append(drawn)
-                end = begin
-            for column in line.columns:
-                place = curve(self.begin, self.left[column], self.level, height) + f"H{end:.0f}"
-                parts = [path(place, "wide"), path(place), *parts]
-            yield group("line", spelled(line, self.mapping), parts, self.color(line))
+                label = (self.end - 18, height, line.label)
+                end = pill(*label)[1]
+            curves = [curve(self.begin, self.left[column], self.level, height) + f"H{end:.0f}"
+                      for column in line.columns]
+            yield LineShape(line, curves, label, self.color(line))
 
 
 class Drawn(NamedTuple):
@@ -104,6 +139,19 @@ class Drawn(NamedTuple):
     there: list[float]
     title: str
     is_optional: bool
+
+
+class RefShape(NamedTuple):
+    """Where a ref is: its way, and its tips."""
+
+    ref: Drawn
+    way: str
+    tips: str
+
+    def drawn(self) -> Element:
+        """The ref in SVG, an optional one with dashes."""
+        parts = [path(self.way, "wide"), path(self.way, "way"), path(self.tips, "tip")]
+        return group("ref optional" if self.ref.is_optional else "ref", self.ref.title, parts)
 
 
 class Refs:
@@ -144,14 +192,12 @@ class Refs:
         """How much room the lanes take."""
         return LANE * (max(self.lanes.values(), default=-1) + 1) + 16
 
-    def drawn(self, x: float, direction: int) -> Iterator[str]:
-        """Each ref in SVG, an optional one with dashes; `x` is the rim of the boxes, and lanes go from there to the
-        left (-1) or to the right (1).
+    def shapes(self, x: float, direction: int) -> Iterator[RefShape]:
+        """Where each ref is; `x` is the rim of the boxes, and lanes go from there to the left (-1) or to the right (1).
         """
-        for place, (own, there, title, is_optional) in enumerate(self.refs):
+        for place, ref in enumerate(self.refs):
             lane = x + direction * (12 + LANE * self.lanes[place])
-            way = "".join(f"M{x:.0f} {one:.1f}H{lane:.0f}V{there[0] + 3:.1f}" for one in own)
-            way += "".join(f"M{lane:.0f} {one + 3:.1f}H{x + direction * 6:.0f}" for one in there)
-            tips = "".join(f"M{x:.0f} {one + 3:.1f}l{direction * 7} -4v8z" for one in there)
-            parts = [path(way, "wide"), path(way, "way"), path(tips, "tip")]
-            yield group("ref optional" if is_optional else "ref", title, parts)
+            way = "".join(f"M{x:.0f} {one:.1f}H{lane:.0f}V{ref.there[0] + 3:.1f}" for one in ref.own)
+            way += "".join(f"M{lane:.0f} {one + 3:.1f}H{x + direction * 6:.0f}" for one in ref.there)
+            tips = "".join(f"M{x:.0f} {one + 3:.1f}l{direction * 7} -4v8z" for one in ref.there)
+            yield RefShape(ref, way, tips)

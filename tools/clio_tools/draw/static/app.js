@@ -9,6 +9,7 @@ import {showInspector} from "./inspector.js";
 import {startKeys} from "./keys.js";
 import {showLines} from "./lines.js";
 import {because, isWhole, loadTheirs, model, on, open, redo, save, setLive, undo} from "./model.js";
+import {startPicture} from "./picture.js";
 import {startPointer} from "./pointer.js";
 import {textChanged} from "./proposals.js";
 import {curves, redraw} from "./redraw.js";
@@ -150,6 +151,7 @@ function start() {
   startClicks();
   startKeys(trySave);
   startDrafts(run);
+  startPicture();
   open();
 }
 start();

@@ -1,7 +1,8 @@
 // The lines between both sides. A line is drawn if one of its ends is in sight; an end that is scrolled away is at the
-// rim, an end in a collapsed set at the set.
+// rim, an end in a collapsed set at the set. The picture of the whole text (picture.js) is drawn by clio-picture's code;
+// here both sides scroll, fold and have the focus, so where an end is only the browser knows.
 import {byId, s} from "./dom.js";
-import {lineText, model} from "./model.js";
+import {lineText, model, setsOf} from "./model.js";
 import {keyOf, sides} from "./trees.js";
 
 const COLOURS = 8;
@@ -51,7 +52,7 @@ export function drawCurves() {
   svg.setAttribute("viewBox", `0 0 ${frame.width} ${frame.height}`);
   const chosen = model.selection?.kind === "line" ? model.selection.index : -1;
   let drawn = 0;
-  const bundles = new Map();
+  const bundles = new Map(), colours = coloursOf(model.outline.source);
   model.live?.rules?.forEach((rule, number) => {
     if (!rule.by_hand) return;
     made.push(...ruleCurves(rule, number, frame));
@@ -60,7 +61,7 @@ export function drawCurves() {
     if (line.literal !== null) return;
     const to = end("target", ...line.target, frame);
     if (!to) return;
-    const colour = number(line.target[0]);
+    const colour = colours.get(line.columns[0][0]);
     let any = false;
     if (line.columns.length === 1 && index !== chosen &&
         !model.because.has(index)) {  // all lines between two collapsed sets are one
@@ -93,7 +94,7 @@ export function drawCurves() {
     if (!from || !to || !(from.seen || to.seen)) continue;
     const group = path(
         from, to, frame, lines.length > 1 ? "line bundle" : "line",
-        `${lines.length} lines from ${pair.replace(">", " to ")}: a click opens both sets`, number(pair.split(">")[1]));
+        `${lines.length} lines from ${pair.replace(">", " to ")}: a click opens both sets`, colours.get(pair.split(">")[0]));
     group.dataset.sets = pair;
     if (lines.length > 1 && from.seen && to.seen)
       group.append(s("text", {x: frame.width - 24, y: to.y - 4}, String(lines.length)));
@@ -129,10 +130,11 @@ function ruleCurves(rule, number, frame) {
   return made;
 }
 
-const numbers = new Map();
-function number(set) {
-  if (!numbers.has(set)) numbers.set(set, numbers.size);
-  return numbers.get(set);
+// A colour for each root of the source, as in the picture; the inner sets of a root have its own.
+function coloursOf(trees) {
+  const found = new Map();
+  trees.forEach((root, place) => [...setsOf([root])].forEach(([tree]) => found.set(tree.name, place)));
+  return found;
 }
 
 // The line that follows the pointer.
