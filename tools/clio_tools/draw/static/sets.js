@@ -1,6 +1,8 @@
 // What can be done with a set: from which sets its rows come, and its keys, dependencies and refs.
-import {fill, h, say} from "./dom.js";
+import {counted, fill, h, say} from "./dom.js";
 import {edit, model, rowsOf, select, setNamed, setsOf} from "./model.js";
+
+const NAMED = 3;  // sets that are named at most
 
 export function ofSet(box, {side, set}) {
   const tree = setNamed(side, set),
@@ -61,9 +63,21 @@ function addOrigin(set, rows) {
         h("button", {onclick: () => add(choice.value)}, "add"));
   const near = [...new Set(lined)].slice(0, 4);
   return h(
-      "div", {class: "origin"}, h("span", {}, "Its rows are what lines say. Or each row comes from a row of "),
+      "div", {class: "origin"}, h("span", {}, `${linesSay(set)} Or each row comes from a row of `),
       near.map((name) => h("button", {onclick: () => add(name)}, name)), choice,
       h("button", {onclick: () => add(choice.value)}, "take it"));
+}
+
+// What a set without `rows` gets its rows of: of lines to it, and to what its refs lead to, directly or by others.
+function linesSay(set) {
+  const reached = new Set([set]);
+  for (const name of reached) setNamed("target", name)?.refs.forEach((ref) => reached.add(ref.set));
+  const others = [...reached].slice(1), more = others.length - NAMED;
+  if (!others.length) return "Its rows are what lines to it say.";
+  const named = [...others.slice(0, NAMED), ...(more > 0 ? [counted(more, "other set")] : [])];
+  const last = named.length > 1 ? ` and ${named.at(-1)}` : "";
+  return `Its rows are what lines to it, and to ${named.slice(0, last ? -1 : 1).join(", ")}${
+      last}, say: its refs lead there.`;
 }
 
 const sourceSets = () => [...setsOf(model.outline.source)].map(([tree]) => tree.name);
