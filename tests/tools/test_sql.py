@@ -20,7 +20,7 @@ from clio_tools.program import Refused
 from clio_tools.sql.command import rounded
 from clio_tools.sql.forecast import Forecast
 from clio_tools.sql.script import Script
-from clio_tools.sql.servers import reached, sign
+from clio_tools.sql.server import reached, sign
 from covers import Covers, CoveredPlaces
 from files import moved, nulls_text
 from homomorphisms import core_of, homomorphism, is_core

@@ -21,6 +21,24 @@ target { set t { k, x, y; key (k); } set u { x, z; } }
 rule a(k, x) -> t(k, x, p), u(x, q);
 rule b(k, y) -> t(k, o, y);
 """
+SEVERAL = """mapping 1;
+source { set emp { eid, name, dname; } set dept { dname, city; } set phone { eid, num; } }
+target {
+  set unit { uname, place; key (uname); set staff { sid, sname, phone; key (sid); } }
+  set number { num, who; }
+  set town { name, mayor, river; key (mayor); key (name); }
+  set twin { a, b, c; key (a); }
+}
+rule dept(d, c) -> unit(u, d, c), town(c, d, r);
+rule emp(e, n, d), dept(d, c) -> unit(u, d, c), staff(u, e, n, p), number(q, n);
+rule phone(e, m), emp(e, n, d) -> staff(u, e, n, f), unit(u, d, c), number(m, n), twin(e, y, y);
+rule emp(e, n, d) -> town(x, d, r), twin(e, n, z);
+"""
+SOURCE = {"emp": {"eid": "e{0}", "name": "n{2}", "dname": "d{1}"}, "dept": {"dname": "d{1}", "city": "c{1}"},
+          "phone": {"eid": "e{2}", "num": "?{2}"}}
+LISTED = {"unit": ["#id", "uname", "place"], "staff": ["#up", "sid", "sname", "phone"], "number": ["num", "who"],
+          "town": ["name", "mayor", "river"], "twin": ["a", "b", "c"], "nulls": ["null", "variable", "value"],
+          "fold": ["null", "value"]}
 KEPT = contextlib.ExitStack()
 SERVERS: list[Postgres] = []  # the one that is started
 SESSIONS: list[list[str]] = [[], ["--sessions", "2"]]
@@ -226,6 +244,86 @@ class Interrupted(Server):
             self.assertEqual(run.wait(60), 0, said_by(run).read())
             self.assertEqual(self.session.value("SELECT count(*) FROM target.t WHERE k LIKE 'more%'"), "0")
             self.session.run("DELETE FROM source.b WHERE k LIKE 'more%'")
+
+
+class Several(Server):
+    """Three databases, as if each were a server of its own, and one that is asked."""
+    NAMES = "asked", "part0", "part1", "part2"
+
+    def setUp(self) -> None:
+        super().setUp()
+        for name in self.NAMES:
+            self.session.run(f"DROP DATABASE IF EXISTS {name} WITH (FORCE)")
+            self.session.run(f"CREATE DATABASE {name}")
+        places = [self.place.replace("dbname=postgres", f"dbname={name}") for name in self.NAMES]
+        self.place = places[0]
+        self.file("servers.txt", "\n".join(places[1:]))
+        self.parts = [Session(place) for place in places]
+        for session in self.parts:
+            self.addCleanup(session.close)
+        self.session.close()
+        self.session = self.parts[0]
+        self.file("mapping.clio", SEVERAL)
+        self.made("--servers", "servers.txt", "--source")
+        for name, columns in SOURCE.items():
+            rows = [[text.format(number, number % 3, number % 7) for text in columns.values()] for number in range(40)]
+            self.file(f"{name}.csv", "".join(",".join(row) + "\n" for row in [list(columns), *rows]))
+            self.session.copy_rows_in(f"source.{name}", rows)
+
+    def schemas(self) -> list[str | None]:
+        """The work schemas that are left anywhere."""
+        found = [session.column("SELECT nspname FROM pg_namespace WHERE nspname LIKE 'clio\\_run%'")
+                 for session in self.parts]
+        return sum(found, [])
+
+    def target(self) -> list[list[tuple[str | None, ...]]]:
+        return [sorted(self.session.rows(f"SELECT * FROM target.{name}")) for name in LISTED]
+
+    def written(self, *words: str) -> list[list[tuple[str, ...]]]:
+        """What clio makes of the same."""
+        self.assertEqual(self.clio("exchange", *words)[0], 0)
+        return [sorted(tuple(row) for row in read_table(self.folder / "out" / f"{name}.csv", columns))
+                for name, columns in LISTED.items()]
+
+    def test_equal_to_clio(self) -> None:
+        for words in MODES:
+            self.made("--servers", "servers.txt", *words)
+            self.assertEqual(self.target(), self.written(*words))
+            self.assertEqual(self.schemas(), [])
+
+    def test_a_source_where_the_servers_are_asked(self) -> None:
+        self.session.run("CREATE TABLE public.emp AS SELECT * FROM source.emp; DROP TABLE source.emp;"
+                         "CREATE VIEW source.emp AS SELECT * FROM public.emp")
+        self.made("--servers", "servers.txt")
+        self.assertEqual(self.target(), self.written())
+
+    def test_a_clash_and_a_lost_server_leave_the_target(self) -> None:
+        self.made("--servers", "servers.txt")
+        before = self.target()
+        self.session.run("INSERT INTO source.dept VALUES ('d1', 'elsewhere')")
+        status, out, said = self.tool("clio-sql", "postgres", "--servers", "servers.txt", self.place)
+        self.assertEqual((status, out), (3, ""), said)
+        self.session.run("DELETE FROM source.dept WHERE city = 'elsewhere'")
+        for ends, status in (lambda run: run.send_signal(signal.SIGINT), 130), (self.end_a_server, 2):
+            other = self.parts[2]
+            part = other.value("SELECT oid::regclass FROM pg_class WHERE relname = 'emp' AND relkind = 'r'")
+            other.run(f"BEGIN; LOCK TABLE {part} IN ACCESS EXCLUSIVE MODE")
+            run = self.begun("--servers", "servers.txt")
+            self.wait_until("SELECT EXISTS (SELECT 1 FROM pg_locks WHERE NOT granted)")
+            ends(run)
+            self.assertEqual(run.wait(60), status)
+            other.run("ROLLBACK")
+            self.assertEqual(self.target(), before)
+            if status == 130:
+                self.assertEqual(self.schemas(), [])
+        self.made("--servers", "servers.txt")  # which drops what the lost server kept
+        self.assertEqual((self.target(), self.schemas()), (before, []))
+
+    def end_a_server(self, run: subprocess.Popen[str]) -> None:
+        """Ends all sessions of a run on one server."""
+        self.session.run("SELECT pg_terminate_backend(pid) FROM pg_stat_activity"
+                         " WHERE datname = 'part1' AND application_name = 'clio' AND pid <> %s",
+                         str(self.parts[2].connection.info.backend_pid))
 
 
 class Secrets(Server):

@@ -25,10 +25,12 @@ runs none; with --dialect duckdb it is that for DuckDB, which was never run. On 
 are done, and about how long the others take.
 
 With --servers the rows are on several PostgreSQL servers: each line of FILE says how one is reached, as `host=db1
-dbname=parts user=clio`. The database of CONNECTION runs the same SQL; there each table is a partitioned one whose
-parts are tables of the servers (by the extension postgres_fdw, which the tool sets up). With --source the tables of
-the source are made so, empty, and are then loaded through that database. In the databases of the servers the rows are
-in schemas that begin with clio_. The source may also be in the database of CONNECTION itself.
+dbname=parts user=clio`. Each makes its part of each table, and rows that have to meet are copied from one to the other
+through this tool. In the database of CONNECTION each table is a partitioned one whose parts are tables of the servers
+(by the extension postgres_fdw, which the tool sets up); what it asks of all rows, as most of core mode, goes through
+there. With --source the tables of the source are made so, empty, and are then loaded through that database. In the
+databases of the servers the rows are in schemas that begin with clio_. The source may also be in the database of
+CONNECTION itself.
 """
 import argparse
 import pathlib
@@ -36,7 +38,7 @@ import sys
 
 from clio_tools.mapping.text import Mapping
 from clio_tools.program import Refused, harmless, remark, run
-from clio_tools.sql.chase import Clash
+from clio_tools.sql.determinations import Clash
 from clio_tools.sql.exchange import Exchange
 from clio_tools.sql.plan import Plan
 from clio_tools.sql.postgres import Postgres

@@ -1,11 +1,12 @@
 """The whole exchange on an engine: matches, what keys and dependencies make equal, in core mode what covers and what
 reduces, and the tables."""
 import re
-from collections.abc import Callable
+from collections.abc import Callable, Sequence
 from typing import NamedTuple
 
 from clio_tools.mapping.text import Mapping, Set
-from clio_tools.sql.chase import Chase, Determination
+from clio_tools.sql.chase import Chase
+from clio_tools.sql.determinations import Determination
 from clio_tools.sql.covering import Covering
 from clio_tools.sql.forecast import MATCHES, PUBLISHING, expected
 from clio_tools.sql.reducing import Reducer, Rest
@@ -14,7 +15,7 @@ from clio_tools.sql.script import Script
 from clio_tools.sql.stars import Part
 from clio_tools.sql.tables import Heads, Inserts, Table
 from clio_tools.sql.words import quoted
-from clio_tools.sql.work import Made, Work
+from clio_tools.sql.work import Home, Made, Matched, Source, Work
 from clio_tools.sql.writing import Writer
 
 
@@ -40,8 +41,8 @@ class Exchange:
                                  | {"nulls": ["null", "variable", "value"], "fold": ["null", "value"]})
         asked = [one for table, given in zip(self.tables, self.mapping.target) for one in determinations(table, given)]
         keys = [one.table for one in asked if one.right]
-        Matches(self.work, self.script, self.mapping).make(
-            lambda rows: expected(self.script, self.tables, keys, rows, self.sessions > 1))
+        Matches(self.work, self.script, self.mapping, self.heads).make(
+            lambda rows: expected(self.script, self.tables, keys, rows, self.sessions > 1), together(asked))
         chase = Chase(self.work, self.tables, asked)
         chase.run()
         rest = self.reduce(chase, asked) if self.core else None
@@ -74,46 +75,72 @@ def determinations(table: Table, given: Set) -> list[Determination]:
     return keys + [Determination(table, left, right) for left, right in given.dependencies]
 
 
+def together(asked: Sequence[Determination]) -> dict[int, int]:
+    """For each rule a number; rules have one number if a key or dependency compares the first columns of their
+    matches."""
+    number: dict[int, int] = {}
+    for one in asked:
+        rules = one.together if one.right else set()
+        joined = {number.get(rule, rule) for rule in rules}
+        number |= {rule: min(joined) for rule in rules}
+        number |= {rule: min(joined) for rule, other in number.items() if other in joined}
+    return number
+
+
 class Matches:
     """Makes the tables of matches, each with the places that name nulls."""
 
-    def __init__(self, work: Work, script: Script, mapping: Mapping) -> None:
-        self.work, self.script, self.words, self.mapping = work, script, work.words, mapping
+    def __init__(self, work: Work, script: Script, mapping: Mapping, heads: Heads) -> None:
+        self.work, self.script, self.words, self.mapping, self.heads = work, script, work.words, mapping, heads
 
-    def make(self, foresee: Callable[[dict[int, int]], dict[str, float]]) -> None:
-        """Those of all rules, and of these those that are kept; `foresee` says of their rows what steps are to come."""
-        names = self.passing()
+    def make(self, foresee: Callable[[dict[int, int]], dict[str, float]], together_as: dict[int, int]) -> None:
+        """Those of all rules, and of these those that are kept; `foresee` says of their rows what steps are to come, and
+        rules of one number have equal texts of their first columns together."""
+        engine, tests = self.work.engine, self.tests()
+        names = {} if engine.is_spread else self.passing(tests)
         numbered = {insert.rule for insert in self.script.inserts if insert.has_null}
-        tables: dict[int, Made] = {}
-        for rule in self.script.matches:
-            query = self.query(rule, names, rule in numbered or bool(self.script.covers))
-            if rule in numbered or self.script.covers or not self.work.engine.is_one_snapshot or self.inserts(rule) > 1:
-                tables[rule] = Made(f"m{rule}", query, self.joined_by(rule))
+        tables: dict[int, Matched] = {}
+        for rule, match in self.script.matches.items():
+            has_place = rule in numbered or bool(self.script.covers)
+            query = self.query(rule, names, has_place)
+            if has_place or not engine.is_one_snapshot or self.inserts(rule) > 1:
+                made = Made(f"m{rule}", query, self.joined_by(rule))
+                tables[rule] = Matched(made, rule, match, has_place, together_as.get(rule, rule))
             else:
-                self.work.engine.run(f"CREATE {self.words.view} m{rule} AS {query}")
+                engine.view(f"m{rule}", query)
         with self.work.step(MATCHES) as rows:
-            counts = self.work.engine.make_all(list(tables.values()))
+            source = Source({table.name: table.columns for table in self.mapping.source}, tests)
+            counts = engine.make_matches(list(tables.values()), source, self.heads.nulls)
             rows.append(sum(counts))
             self.work.forecast.expect(foresee(dict(zip(tables, counts))))
         if self.script.covers:
             with self.work.step("matches that nothing covers"):
-                self.work.engine.make_all([Made(f"k{rule}", self.kept(rule)) for rule in self.script.covers])
+                self.keep()
+
+    def keep(self) -> None:
+        """The matches that nothing covers."""
+        name = "k{}_asked" if self.work.engine.is_spread else "k{}"
+        self.work.engine.make_all([Made(name.format(rule), self.kept(rule)) for rule in self.script.covers])
+        if self.work.engine.is_spread:
+            for rule in self.script.covers:
+                self.work.engine.move(f"k{rule}", f"SELECT * FROM {name.format(rule)}", Home("place", rule))
 
     def inserts(self, rule: int) -> int:
         """How many tables a rule makes rows of, each table counted as often as it does."""
         return [insert.rule for insert in self.script.inserts].count(rule)
 
-    def passing(self) -> dict[str, str]:
+    def tests(self) -> dict[str, str]:
+        """What rows have to pass, for each source table with conditions."""
+        tests: dict[str, list[str]] = {}
+        for one in self.mapping.conditions:
+            tests.setdefault(one.set, []).append(self.words.passes(f'"{one.column}"', one.test))
+        return {name: " AND ".join(found) for name, found in tests.items()}
+
+    def passing(self, tests: dict[str, str]) -> dict[str, str]:
         """A view of the rows that pass for each source table with conditions; answers the names that stand for
         tables."""
-        names = {}
-        for table in self.mapping.source:
-            tests = [self.words.passes(f'"{one.column}"', one.test) for one in self.mapping.conditions
-                     if one.set == table.name]
-            if tests:
-                query = f'SELECT * FROM source."{table.name}" WHERE {" AND ".join(tests)}'
-                names[table.name] = self.work.view("passing", query)
-        return names
+        return {name: self.work.view("passing", f'SELECT * FROM source."{name}" WHERE {found}')
+                for name, found in tests.items()}
 
     def query(self, rule: int, names: dict[str, str], numbered: bool) -> str:
         """The matches of a rule, each once."""

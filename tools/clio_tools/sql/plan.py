@@ -3,10 +3,10 @@ printed once."""
 from collections.abc import Sequence
 
 from clio_tools.sql.words import Words
-from clio_tools.sql.work import Made, Row
+from clio_tools.sql.work import Made, Row, Whole
 
 
-class Plan:
+class Plan(Whole):
     """Statements as they would be run."""
     is_plan = is_one_snapshot = True
 

@@ -1,14 +1,15 @@
 """PostgreSQL: one transaction on one snapshot, or several sessions on one snapshot, and a target that changes in one
 transaction or not at all."""
+import functools
 import secrets
 import threading
 from collections.abc import Sequence
 
 from clio_tools.databases.postgres import literal
 from clio_tools.program import Refused
-from clio_tools.sql.session import Log, Session, unlogged
+from clio_tools.sql.session import Log, Session, at_once, unlogged
 from clio_tools.sql.words import POSTGRES
-from clio_tools.sql.work import Made, Row
+from clio_tools.sql.work import Made, Row, Whole
 
 LOCK = 0x636C696F  # the number of the lock that a run holds in its database
 WORK = "work tables of a run of clio-sql; they can be dropped when it has ended"
@@ -33,7 +34,7 @@ LEFT = """SELECT nspname::text FROM pg_namespace
  AND pg_has_role(nspowner, 'USAGE')"""
 
 
-class Postgres:
+class Postgres(Whole):
     """One PostgreSQL database. With one session the whole run is one transaction, of which nothing is left if it
     fails."""
     words = POSTGRES
@@ -118,34 +119,22 @@ class Postgres:
     def together(self, statements: Sequence[str]) -> list[int]:
         """Runs statements that don't depend on each other, on all sessions at once; answers the rows of each. An
         interrupt cancels them all."""
-        waiting, rows, failed = list(enumerate(statements))[::-1], [-1] * len(statements), list[BaseException]()
+        waiting, rows = list(enumerate(statements))[::-1], [-1] * len(statements)
         lock = threading.Lock()
 
         def work(session: Session) -> None:
-            while not failed:
+            while True:
                 with lock:
                     if not waiting:
                         return
                     number, sql = waiting.pop()
                 try:
                     rows[number] = session.made(sql)
-                except Refused as error:
-                    failed.append(error)
+                except Refused:
+                    waiting.clear()
+                    raise
 
-        threads = [threading.Thread(target=work, args=(session,)) for session in self.sessions]
-        for thread in threads:
-            thread.start()
-        try:
-            for thread in threads:
-                thread.join()
-        except BaseException as error:
-            failed.append(error)
-            for session in self.sessions:
-                session.cancel()
-            for thread in threads:
-                thread.join()
-        if failed:
-            raise failed[0]
+        at_once([functools.partial(work, session) for session in self.sessions], self.sessions)
         return rows
 
     def load(self, name: str, columns: Sequence[str], rows: Sequence[Row]) -> None:

@@ -16,7 +16,7 @@ from clio_tools.csv import read_table, write_table
 from clio_tools.program import Refused, program
 from clio_tools.sql.chase import Chase
 from clio_tools.sql.rigid import Rigid, is_open, key_columns, same_key
-from clio_tools.sql.stars import Part
+from clio_tools.sql.stars import Part, at_home
 from clio_tools.sql.tables import SHIFT, Heads, Table
 from clio_tools.sql.work import Row
 
@@ -270,7 +270,7 @@ class Reducer:
         table = self.work.name("gone")
         self.work.engine.load(table, ["u bigint", "n bigint", f"c text{self.work.words.by_bytes}"], rows)
         after = {row[1] // SHIFT for row in rows if row[1] is not None}
-        return Part(table, {row[0] // SHIFT for row in rows}, after, any(row[2] is not None for row in rows))
+        return Part(at_home(self.work, table), {row[0] // SHIFT for row in rows}, after, any(row[2] is not None for row in rows))
 
 
 def passes(blocks: Iterable[Block], tables: int) -> Iterator[Pass]:

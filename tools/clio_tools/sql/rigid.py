@@ -6,7 +6,7 @@ left when no more nulls become known so are rows with open nulls; rows that shar
 """
 from collections.abc import Iterator, Sequence
 
-from clio_tools.sql.chase import Determination
+from clio_tools.sql.determinations import Determination
 from clio_tools.sql.stars import Stars
 from clio_tools.sql.tables import Table, head_of
 from clio_tools.sql.work import Work

@@ -1,110 +1,53 @@
-"""Several PostgreSQL servers as one. Each table is a partitioned one on the server that is asked: its rows are on the
-others, each by a hash of some of its columns, as tables that postgres_fdw reads and writes there. The SQL stays
-the same.
+"""Several PostgreSQL servers as one. Each makes its part of each table, of rows that were brought together there; what
+is asked of all rows goes through the database that is asked, where each table is a partitioned one whose rows are on
+the others, as tables that postgres_fdw reads there.
 
 In a database of the servers the tables are in schemas that begin with the sign of the server, clio_ and a hash of how
 it is reached, and work tables in a schema of the run. In the database that is asked, the names of these tables are in
 schemas with `_link`.
 """
-import hashlib
-from collections.abc import Iterator, Sequence
+import functools
+import itertools
+import re
+from collections.abc import Sequence
 
-from clio_tools.databases import postgres
 from clio_tools.databases.postgres import literal
 from clio_tools.mapping.text import Set
-from clio_tools.program import Refused
-from clio_tools.sql.postgres import LEFT, LOCK, WORK, Postgres
-from clio_tools.sql.session import Log, Session, unlogged
+from clio_tools.sql.gathering import Gathering
+from clio_tools.sql.moving import Member, by_hash, moved
+from clio_tools.sql.postgres import WORK, Postgres
+from clio_tools.sql.script import Null
+from clio_tools.sql.server import READS, Server, reached
+from clio_tools.sql.session import Log, Session, at_once, unlogged
+from clio_tools.sql.tables import SHIFT
 from clio_tools.sql.words import POSTGRES
-from clio_tools.sql.work import Made, Row
+from clio_tools.sql.work import By, Home, Made, Matched, Row, Source
 
 KEYS = 32  # PostgreSQL takes no more columns in the key of a partition
-SETTINGS = "async_capable 'true', use_remote_estimate 'true', fetch_size '10000', batch_size '1000'"
+NAME = re.compile(r"\b[a-z]+[0-9]+\b")
 PARTS = """SELECT s.srvname::text, o.option_name, o.option_value
  FROM pg_inherits AS i JOIN pg_foreign_table AS f ON f.ftrelid = i.inhrelid
  JOIN pg_foreign_server AS s ON s.oid = f.ftserver CROSS JOIN pg_options_to_table(f.ftoptions) AS o
  WHERE i.inhparent = to_regclass({name}) ORDER BY i.inhrelid, o.option_name"""
+# whether all rows of a table are in its parts, and how many these are
+SPREAD = """SELECT relkind = 'p', (SELECT count(*) FROM pg_inherits WHERE inhparent = c.oid) FROM pg_class AS c
+ WHERE c.oid = to_regclass({name})"""
+SHAPE = """SELECT attname::text, format_type(atttypid, atttypmod) FROM pg_attribute
+ WHERE attrelid = {name}::regclass AND attnum > 0 ORDER BY attnum"""
 UNLOGGED = {"log_statement": "none", "log_min_duration_statement": "-1", "log_min_error_statement": "panic"}
 Columns = Sequence[tuple[str, str]]  # names, and types with their collations
 
 
-def reached(lines: Sequence[str]) -> list[postgres.Place]:
-    """How the servers of a list are reached; a line that says it otherwise is told by its number alone, as it may
-    hold a password."""
-    postgres.library()  # what is missing is said as such, and not as a fault of a line
-    places = []
-    for number, line in enumerate(lines, 1):
-        if not line.strip():
-            continue
-        try:
-            if "=" not in line and "://" not in line:
-                raise Refused("")
-            places.append(postgres.place_of(line.strip()))
-        except Refused:
-            raise Refused(f"line {number} of the servers is neither words as libpq knows them, such as host=db1"
-                          " dbname=parts, nor a URI") from None
-    if not places or len({sign(place) for place in places}) < len(places):
-        raise Refused("the list has no server, or one twice")
-    return places
-
-
-def sign(place: postgres.Place) -> str:
-    """The name of a server, which doesn't depend on who asks."""
-    words = sorted((word, value) for word, value in place.words.items() if word != "user")
-    return "clio_" + hashlib.sha256(repr(words).encode()).hexdigest()[:12]
-
-
-def options(words: dict[str, str]) -> str:
-    """Words of a connection as the options of a server."""
-    return ", ".join(f"{word} {literal(value)}" for word, value in words.items())
-
-
-class Server:
-    """One of the servers, which has a part of each table."""
-
-    def __init__(self, place: postgres.Place, run: str, log: Log) -> None:
-        self.place, self.sign, self.run = place, sign(place), run
-        self.session = Session(place, log)
-        self.session.made("SET client_min_messages = warning")
-        if not self.session.values(f"SELECT pg_try_advisory_lock({LOCK + 1})")[0][0]:
-            raise Refused("another run of clio-sql is under way on one of the servers")
-        here = run.rsplit("_", 1)[0]  # the run, whose schemas are here too if the database that is asked has a part
-        others = f"{LEFT.format(work=literal(WORK))} AND NOT starts_with(nspname, {literal(here)})"
-        for name, in self.session.values(others):
-            self.session.made(f'DROP SCHEMA "{name}" CASCADE')
-
-    def schema(self, kind: str) -> str:
-        """Where its parts of some kind are: those of the source or the target, or work tables."""
-        return self.run if kind == "work" else f"{self.sign}_{kind}"
-
-    def link(self, kind: str) -> str:
-        """Where these have their names in the database that is asked."""
-        return f"{self.schema(kind)}_link"
-
-    def make_schemas(self) -> None:
-        """Makes its schemas."""
-        for kind in "source", "target", "work":
-            self.session.made(f"CREATE SCHEMA IF NOT EXISTS {self.schema(kind)}")
-        self.session.made(f"COMMENT ON SCHEMA {self.run} IS {literal(WORK)}")
-
-    def made_known(self) -> Iterator[str]:
-        """What makes the server known to the one that is asked; the last has the password."""
-        words = {word: value for word, value in self.place.words.items() if word != "user"}
-        user = {"user": self.place.words["user"]} if "user" in self.place.words else {}
-        listed = ", ".join(filter(None, [options(words), SETTINGS]))
-        yield f"CREATE SERVER IF NOT EXISTS {self.sign} FOREIGN DATA WRAPPER postgres_fdw OPTIONS ({listed})"
-        yield f"DROP USER MAPPING IF EXISTS FOR CURRENT_USER SERVER {self.sign}"
-        found = options({**user, **self.place.secrets})
-        yield f"CREATE USER MAPPING FOR CURRENT_USER SERVER {self.sign}" + (f" OPTIONS ({found})" if found else "")
-
-
 class Servers(Postgres):
     """The database that is asked, whose tables are spread over the servers of a list."""
+    is_spread = True
 
     def __init__(self, connection: str | None, lines: Sequence[str], log: Log = unlogged) -> None:
         self.servers: list[Server] = []
         self.unpublished: list[str] = []
-        self.number = 0
+        self.unlinked: set[str] = set()  # work tables of the servers that have no name in the database that is asked
+        self.heads: Sequence[Null] = ()
+        self.offsets: dict[int, list[int]] = {}  # for each rule the place of the first match of each server
         places = reached(lines)
         super().__init__(connection, 1, log)
         try:
@@ -140,33 +83,102 @@ class Servers(Postgres):
     def spread(self, name: str, kind: str, part: str, columns: Columns, by: Sequence[str]) -> None:
         """Makes an empty table whose rows are on the servers, told apart by a hash of some columns."""
         listed = ", ".join(f'"{column}" {sort}' for column, sort in columns)
-        self.one.made(f"CREATE TABLE {name} ({listed}) PARTITION BY HASH ({', '.join(by[:KEYS])})")
-        for place, server in enumerate(self.servers):
+        for server in self.servers:
             table = POSTGRES.table if kind == "work" else "TABLE"
             here = f'{server.schema(kind)}."{part}"'
             server.session.made(f"DROP TABLE IF EXISTS {here}; CREATE {table} {here} ({listed})")
+        self.link(name, kind, part, columns, by)
+
+    def link(self, name: str, kind: str, part: str, columns: Columns, by: Sequence[str] = ()) -> None:
+        """Makes a table of tables of the servers. If it isn't known by which columns their rows are told apart, an
+        expression says so that no query has."""
+        listed = ", ".join(f'"{column}" {sort}' for column, sort in columns)
+        first, sort = columns[0]
+        other = f"""("{first}" {"|| ''" if sort.startswith("text") else "+ 0"})"""
+        self.one.made(f"CREATE TABLE {name} ({listed}) PARTITION BY HASH ({', '.join(by[:KEYS]) or other})")
+        for place, server in enumerate(self.servers):
             self.one.made(f'CREATE FOREIGN TABLE {server.link(kind)}."{part}" PARTITION OF {name}'
                           f" FOR VALUES WITH (MODULUS {len(self.servers)}, REMAINDER {place})"
                           f" SERVER {server.sign} OPTIONS (schema_name {literal(server.schema(kind))},"
                           f" table_name {literal(part)})")
 
-    def columns(self, query: str, collation: str) -> Columns:
-        """The names and types of the columns of a query."""
-        self.one.made(f"CREATE TEMPORARY VIEW shape AS {query}")
-        found = self.one.values("SELECT attname::text, format_type(atttypid, atttypmod) FROM pg_attribute"
-                                " WHERE attrelid = 'pg_temp.shape'::regclass ORDER BY attnum")
-        self.one.made("DROP VIEW pg_temp.shape")
-        return [(name, sort + (collation if sort == "text" else "")) for name, sort in found]
+    def linked(self, sql: str) -> str:
+        """SQL whose work tables have names in the database that is asked."""
+        for name in sorted(self.unlinked & set(NAME.findall(sql))):
+            columns = self.servers[0].session.values(SHAPE.format(name=literal(name)))
+            self.link(name, "work", name, [(column, by_bytes(sort)) for column, sort in columns])
+            self.unlinked.discard(name)
+        return sql
+
+    def on_each(self, sql: str) -> list[int]:
+        """Runs SQL on all servers at once; answers how many rows it made on each."""
+        return at_once([functools.partial(server.session.made, sql) for server in self.servers], self.all_sessions)
+
+    @property
+    def all_sessions(self) -> list[Session]:
+        """Those of the servers, and the one of the database that is asked."""
+        return [self.one, *(session for server in self.servers for session in server.sessions)]
+
+    def run(self, sql: str) -> int:
+        return super().run(self.linked(sql))
+
+    def rows(self, sql: str, assumed: Sequence[Row]) -> Sequence[Row]:
+        return super().rows(self.linked(sql), assumed)
+
+    def each(self, sql: str, assumed: Sequence[Row]) -> Sequence[Row]:
+        found = at_once([functools.partial(server.session.values, sql) for server in self.servers], self.all_sessions)
+        return [row for rows in found for row in rows]
+
+    def view(self, name: str, query: str) -> None:
+        self.on_each(f"CREATE {POSTGRES.view} {name} AS {query}")
+        self.unlinked.add(name)
+
+    def move(self, name: str, query: str, by: By) -> None:
+        moved([server.member for server in self.servers], name, [query] * len(self.servers), self.goes(by))
+        self.unlinked.add(name)
+
+    def goes(self, by: By) -> str:
+        """The number of the server to which a row goes."""
+        count = len(self.servers)
+        if not isinstance(by, Home):
+            return by_hash([(column, column.startswith("c")) for column in by], count)
+        starts = self.offsets[by.rule] if by.rule is not None else [
+            head * SHIFT + start for head, null in enumerate(self.heads) for start in self.offsets[null.rule]]
+        return f"(width_bucket({by.column}, CAST(ARRAY{starts} AS bigint[])) - 1) % {count}"
 
     def make(self, table: Made) -> int:
+        if table.is_local:
+            rows = self.on_each(f"CREATE {POSTGRES.table} {table.name} AS {table.query}; ANALYZE {table.name}")
+            self.unlinked.add(table.name)
+            return sum(rows)
         self.spread_work(table)
-        rows = self.one.made(f"INSERT INTO {table.name} {table.query}")
+        made = self.one.made(f"INSERT INTO {table.name} {table.query}")
         self.analyze(table.name)
-        return rows
+        return made
+
+    def make_matches(self, matches: Sequence[Matched], source: Source, heads: Sequence[Null]) -> list[int]:
+        self.one.made(READS)
+        members = [server.reading() for server in self.servers]
+        counts = Gathering(members, Member(self.one, self.one), self.source_parts, source).run(matches)
+        self.heads = heads
+        self.offsets = {one.rule: list(itertools.accumulate(count, initial=0))[:-1]
+                        for one, count in zip(matches, counts)}
+        self.unlinked |= {one.made.name for one in matches}
+        return [sum(count) for count in counts]
+
+    def source_parts(self, table: str) -> list[str]:
+        """The parts of a source table, one on each server; none if its rows are in the database that is asked."""
+        name = f'source."{table}"'
+        found = {sign: f'{schema}."{part}"' for sign, schema, part in self.parts_of(name)}
+        is_whole = self.one.values(SPREAD.format(name=literal(name))) == [(True, len(self.servers))]
+        signs = [server.sign for server in self.servers]
+        return [found[sign] for sign in signs] if is_whole and found.keys() == set(signs) else []
 
     def spread_work(self, table: Made) -> None:
         """Makes an empty work table."""
-        columns = self.columns(table.query, self.words.by_bytes)
+        self.one.made(f"CREATE TEMPORARY VIEW shape AS {self.linked(table.query)}")
+        columns = [(name, by_bytes(sort)) for name, sort in self.one.values(SHAPE.format(name="'pg_temp.shape'"))]
+        self.one.made("DROP VIEW pg_temp.shape")
         self.spread(table.name, "work", table.name, columns, list(table.by) or [name for name, _ in columns])
 
     def analyze(self, name: str) -> None:
@@ -193,9 +205,11 @@ class Servers(Postgres):
         self.prepared.append((name, columns, parts))
         part = f"{self.schema.removeprefix('clio_run_')}_{len(self.prepared)}"
         self.unpublished.append(part)
-        table = f'{self.made_in}."{name}"'
-        self.spread(table, "target", part, self.columns(parts[0], ""), [f'"{column}"' for column in columns])
-        self.counts[name] = sum(self.one.made(f"INSERT INTO {table} {query}") for query in parts)
+        self.spread(f'{self.made_in}."{name}"', "target", part, [(column, "text") for column in columns], ())
+        query = " UNION ALL ".join(parts)
+        self.counts[name] = sum(at_once([
+            functools.partial(server.session.made, f'INSERT INTO {server.schema("target")}."{part}" {query}')
+            for server in self.servers], self.all_sessions))
 
     def publish(self) -> dict[str, int]:
         old = [found for name, _, _ in self.prepared for found in self.parts_of(f'target."{name}"')]
@@ -226,6 +240,8 @@ class Servers(Postgres):
 
     def close(self) -> None:
         """Drops what was worked on, here and on the servers."""
+        for server in self.servers:
+            server.sending.close()  # first, as it may be reading what is to be dropped
         for session in self.sessions:
             session.attempt("ROLLBACK")
             for schema in (self.schema, self.made_in, *(server.link("work") for server in self.servers)):
@@ -241,3 +257,6 @@ class Servers(Postgres):
             server.session.close()
 
 
+def by_bytes(sort: str) -> str:
+    """The type of a column of a work table."""
+    return sort + POSTGRES.by_bytes if sort == "text" else sort

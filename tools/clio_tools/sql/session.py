@@ -1,7 +1,8 @@
 """A session of a PostgreSQL server: it logs its statements, and says of what goes wrong what became of the target."""
+import threading
 import time
 from collections.abc import Callable, Sequence
-from typing import TYPE_CHECKING, Any, cast
+from typing import TYPE_CHECKING, Any, TypeVar, cast
 
 from clio_tools.databases import postgres
 from clio_tools.sql.work import Row
@@ -19,6 +20,7 @@ CAUSES = {
     "57P02": "the server has crashed",
 }
 Log = Callable[[str, float, int], None]  # a statement, its seconds and its rows
+Answer = TypeVar("Answer")
 
 
 def unlogged(sql: str, seconds: float, rows: int) -> None:
@@ -75,3 +77,31 @@ class Session(postgres.Session):
             self.run(sql)
         except postgres.DatabaseError:
             pass
+
+
+def at_once(works: Sequence[Callable[[], Answer]], sessions: Sequence[Session]) -> list[Answer]:
+    """What works answer that are done at once; an interrupt cancels what the sessions run."""
+    answers: dict[int, Answer] = {}
+    failed: list[BaseException] = []
+
+    def done(number: int) -> None:
+        try:
+            answers[number] = works[number]()
+        except BaseException as error:
+            failed.append(error)
+
+    threads = [threading.Thread(target=done, args=(number,)) for number in range(len(works))]
+    for thread in threads:
+        thread.start()
+    try:
+        for thread in threads:
+            thread.join()
+    except BaseException as error:
+        failed.insert(0, error)
+        for session in sessions:
+            session.cancel()
+        for thread in threads:
+            thread.join()
+    if failed:
+        raise failed[0]
+    return [answers[number] for number in range(len(works))]

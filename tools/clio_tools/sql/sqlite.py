@@ -10,13 +10,13 @@ from clio_tools.mapping.meanings import CONVERSIONS, own
 from clio_tools.program import Refused
 from clio_tools.sql.session import Log, unlogged
 from clio_tools.sql.words import SQLITE, quoted
-from clio_tools.sql.work import Made, Row
+from clio_tools.sql.work import Made, Row, Whole
 
 MADE = "/* made by clio-sql */"
 LOOKED_UP = ("u", "place")  # columns of numbers by which single rows are looked up
 
 
-class Sqlite:
+class Sqlite(Whole):
     """One transaction: what is asked of the source is of one state of it, and the target changes at its end, or not
     at all."""
     words = SQLITE

@@ -1,6 +1,6 @@
 """Nulls that went: tables of what each became, and how pairs that have to be equal are joined to such tables."""
 from clio_tools.sql.tables import head_of
-from clio_tools.sql.work import Row, Work
+from clio_tools.sql.work import Home, Row, Work
 
 FIRST = -(1 << 60)  # texts are numbered from here while pairs are joined: below all nulls
 
@@ -15,7 +15,8 @@ class Part:
 
     def follow(self, work: Work, other: "Part") -> None:
         """Puts what nulls became by another part in the place of these nulls."""
-        self.table = work.made("fold", followed(self.table, other.table), ["u"])
+        rows = work.moved(f"SELECT * FROM {self.table}", Home("n")) or self.table
+        self.table = at_home(work, work.made("fold", followed(rows, other.table), ["u"], is_local=True))
         self.after |= other.after
         self.texts |= other.texts
 
@@ -26,14 +27,23 @@ def followed(table: str, other: str) -> str:
             f" FROM {table} AS e LEFT JOIN {other} AS g ON g.u = e.n")
 
 
-def part_of(work: Work, table: str, before: set[int], after: set[int], texts: bool) -> Part | None:
-    """The part of a table of nulls that went, or None if it has none; the heads that it may have are given."""
+def at_home(work: Work, table: str) -> str:
+    """A table of nulls that went, each on the server that has the match that made it."""
+    return work.moved(f"SELECT * FROM {table}", Home("u")) or table
+
+
+def part_of(work: Work, table: str, before: set[int], after: set[int], texts: bool,
+            is_at_home: bool = False) -> Part | None:
+    """The part of a table of nulls that went, or None if it has none; the heads that it may have are given, and whether
+    each null is on the server of its match."""
     assumed: list[Row] = [(u, n, int(texts)) for u in sorted(before) for n in [*sorted(after), None]]
     u, n = (head_of(work.words, number) for number in "un")
     query = f"SELECT {u} AS u, {n} AS n, max(CASE WHEN c IS NOT NULL THEN 1 ELSE 0 END) FROM {table} GROUP BY {u}, {n}"
-    found = work.engine.rows(query, assumed)
+    found = work.engine.each(query, assumed)
     if not found:
         return None
+    if not is_at_home:
+        table = at_home(work, table)
     becomes = [int(row[1]) for row in found if row[1] is not None]
     return Part(table, {int(row[0]) for row in found}, set(becomes), any(row[2] for row in found))
 

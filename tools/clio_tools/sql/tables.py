@@ -6,7 +6,7 @@ in the order of their names; the names are made once, where tables are written. 
 n, and one that has nothing else no c.
 """
 import copy
-from collections.abc import Sequence
+from collections.abc import Callable, Sequence
 from dataclasses import dataclass
 from typing import NamedTuple
 
@@ -121,10 +121,13 @@ class Table:
         insert = next(insert for insert in self.inserts if not self.is_apart(insert))
         return all(f"m.c{column}" in insert.cells for column in range(self.widths[insert.rule]))
 
-    def query(self, distinct: bool) -> str:
-        """What stands in the table, each row once if that is asked."""
+    def query(self, distinct: bool, moved: Callable[[str], str] | None = None) -> str:
+        """What stands in the table, each row once if that is asked; `moved` has equal rows of a query on one server, if
+        rows are on several."""
         if self.work:
-            return f"SELECT {'DISTINCT ' * (distinct and self.is_loose)}* FROM {self.work}"
+            is_twice = distinct and self.is_loose
+            name = moved(f"SELECT * FROM {self.work}") if is_twice and moved else self.work
+            return f"SELECT {'DISTINCT ' * is_twice}* FROM {name}"
         if not self.inserts:
             cells = ", ".join(f"{self.words.no_text} AS c{place}" for place in range(len(self.columns)))
             return f"SELECT {cells} WHERE 1 = 0"
@@ -132,8 +135,12 @@ class Table:
             return " UNION ALL ".join(map(self.insert_query, self.inserts))
         apart = [self.insert_query(insert) for insert in self.inserts if self.is_apart(insert)]
         others = [self.insert_query(insert) for insert in self.inserts if not self.is_apart(insert)]
-        if len(others) == 1:
-            apart.append(others[0] if self.is_whole() else "SELECT DISTINCT" + others[0][6:])
+        if len(others) == 1 and self.is_whole():
+            apart.append(others[0])
+        elif others and moved:
+            apart.append(f"SELECT DISTINCT * FROM {moved(' UNION ALL '.join(others))}")
+        elif len(others) == 1:
+            apart.append("SELECT DISTINCT" + others[0][6:])
         elif others:
             apart.append(f"SELECT * FROM ({' UNION '.join(others)}) AS u")
         return " UNION ALL ".join(apart)

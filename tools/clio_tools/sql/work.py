@@ -5,6 +5,7 @@ from collections.abc import Callable, Iterator, Sequence
 from typing import Any, NamedTuple, Protocol
 
 from clio_tools.sql.forecast import Forecast
+from clio_tools.sql.script import Match, Null
 from clio_tools.sql.words import Words
 
 Row = tuple[Any, ...]
@@ -17,6 +18,31 @@ class Made(NamedTuple):
     name: str
     query: str
     by: Sequence[str] = ()
+    is_local: bool = False  # whether several servers each make their part of it, of their rows alone
+
+
+class Matched(NamedTuple):
+    """The matches of a rule that are to be made, each once and with its place."""
+    made: Made
+    rule: int
+    match: Match
+    is_numbered: bool
+    together: int  # rules of one such number have equal texts of their first column on one server
+
+
+class Source(NamedTuple):
+    """The columns of the source tables, and what rows have to pass."""
+    columns: dict[str, list[str]]
+    tests: dict[str, str]
+
+
+class Home(NamedTuple):
+    """Where the matches are that made the nulls of a column, or, of a rule, those of a place."""
+    column: str
+    rule: int | None = None
+
+
+By = Sequence[str] | Home  # by what rows are brought together on a server: columns in which they agree, or their home
 
 
 class Engine(Protocol):
@@ -24,6 +50,7 @@ class Engine(Protocol):
     words: Words
     is_plan: bool  # whether the SQL is only printed
     is_one_snapshot: bool  # whether all that is asked of the source is of one state of it
+    is_spread: bool  # whether rows are on several servers
 
     def prepare(self, tables: dict[str, list[str]]) -> None:
         """Refuses tables of the target, given with their columns, that can't be put in the place of those that are
@@ -35,8 +62,20 @@ class Engine(Protocol):
     def rows(self, sql: str, assumed: Sequence[Row]) -> Sequence[Row]:
         """The rows of a query; an engine that only prints answers what is assumed."""
 
+    def each(self, sql: str, assumed: Sequence[Row]) -> Sequence[Row]:
+        """The rows of a query on each server, about what that server has."""
+
+    def view(self, name: str, query: str) -> None:
+        """Makes a view of a query, which each server answers of its rows alone."""
+
+    def move(self, name: str, query: str, by: By) -> None:
+        """Makes a work table of the rows of a query, brought together on servers."""
+
     def make(self, table: Made) -> int:
         """Makes a work table; answers its rows."""
+
+    def make_matches(self, matches: Sequence[Matched], source: Source, heads: Sequence[Null]) -> list[int]:
+        """Makes the matches of rules; answers how many each has. Nulls are of these heads."""
 
     def make_all(self, tables: Sequence[Made]) -> list[int]:
         """Makes work tables that don't depend on each other, of one state of the source; answers the rows of each."""
@@ -52,6 +91,27 @@ class Engine(Protocol):
 
     def close(self) -> None:
         """Leaves nothing behind but what was published."""
+
+
+class Whole:
+    """An engine that has all rows in one place."""
+    is_spread = False
+
+    def each(self: Engine, sql: str, assumed: Sequence[Row]) -> Sequence[Row]:
+        """The rows of a query."""
+        return self.rows(sql, assumed)
+
+    def view(self: Engine, name: str, query: str) -> None:
+        """Makes a view of a query."""
+        self.run(f"CREATE {self.words.view} {name} AS {query}")
+
+    def move(self, name: str, query: str, by: By) -> None:
+        """Nothing has to be moved."""
+        raise ValueError(name)
+
+    def make_matches(self: Engine, matches: Sequence[Matched], source: Source, heads: Sequence[Null]) -> list[int]:
+        """Makes the matches by their queries."""
+        return self.make_all([one.made for one in matches])
 
 
 def silent(what: str, seconds: float, rows: int, left: float | None) -> None:
@@ -78,17 +138,27 @@ class Work:
         seconds = time.monotonic() - began
         self.report(what, seconds, rows[-1], self.forecast.left(what, seconds))
 
-    def made(self, kind: str, query: str, by: Sequence[str] = (), what: str = "") -> str:
+    def made(self, kind: str, query: str, by: Sequence[str] = (), what: str = "", is_local: bool = False) -> str:
         """The name of a work table that is made of a query."""
         name = self.name(kind)
         with self.step(what or "nulls that are equal") as rows:
-            rows.append(self.engine.make(Made(name, query, by)))
+            rows.append(self.engine.make(Made(name, query, by, is_local)))
+        return name
+
+    def moved(self, query: str, by: By) -> str:
+        """The name of a work table of the rows of a query, brought together on servers; no name if all rows are in one
+        place."""
+        if not self.engine.is_spread:
+            return ""
+        name = self.name("moved")
+        with self.step("moving rows between servers"):
+            self.engine.move(name, query, by)
         return name
 
     def view(self, kind: str, query: str) -> str:
         """The name of a view of a query."""
         name = self.name(kind)
-        self.engine.run(f"CREATE {self.words.view} {name} AS {query}")
+        self.engine.view(name, query)
         return name
 
     def row(self, sql: str, assumed: Row) -> Row:

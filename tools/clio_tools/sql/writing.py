@@ -67,7 +67,9 @@ class Writer:
         cells = ", ".join(self.names.column(self.names.cell(f"t.c{place}", f"t.n{place}", cell.texts, cell.heads), name)
                           for place, (cell, name) in enumerate(zip(table.cells, table.columns)))
         if table.work or not table.inserts or not all(map(table.is_apart, table.inserts)):
-            return [f"SELECT {cells} FROM ({table.query(distinct=True)}) AS t"]
+            columns = table.listed(range(len(table.columns)))
+            moved = (lambda query: self.work.moved(query, columns)) if self.work.engine.is_spread else None
+            return [f"SELECT {cells} FROM ({table.query(True, moved)}) AS t"]
         return [f"SELECT {cells} FROM ({table.insert_query(insert, where=where)}) AS t"
                 for insert in table.inserts for where in self.wheres(" WHERE ")]
 
