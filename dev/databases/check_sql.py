@@ -30,7 +30,7 @@ from typing import Any, Protocol
 from homomorphisms import homomorphism
 from clio_tools.databases.postgres import Session, literal
 from clio_tools.mapping.text import Mapping
-from clio_tools.sql.chase import Clash
+from clio_tools.sql.determinations import Clash
 from clio_tools.sql.command import exchange
 from clio_tools.sql.postgres import Postgres as Engine
 from clio_tools.sql.servers import Servers
