@@ -55,7 +55,9 @@ query_in_text target = notions (IsFaultOver target) (IsQueryOver target)
 
 -- a part has too many atoms
 abbrev pub HasManyAtoms : Query → Refusal → Type 0
-HasManyAtoms q e = (p : Part) × (p ∈ q.parts) × (QUERY_ATOMS < length p.atoms) × (e ≡ refusals.Limit (record { what = QueryAtoms; number = QUERY_ATOMS }))
+HasManyAtoms q e =
+    (p : Part) × (p ∈ q.parts) × (QUERY_ATOMS < length p.atoms)
+    × (e ≡ refusals.Limit (record { what = QueryAtoms; number = QUERY_ATOMS }))
 
 abbrev pub few_atoms : Stage Refusal Query Query
 few_atoms = checking HasManyAtoms HasFewAtoms
@@ -80,7 +82,8 @@ query_stages = into (λ (M : Mapping) (q : Query). (M, q)) (by query_over)
 -- the rows of the source files that pass the mapping's conditions
 abbrev pub query_rows : Program → Stage Refusal MappingAndQuery (MappingAndQuery × List TableRows)
 query_rows P =
-    into (λ (p : MappingAndQuery) (I : List TableRows). (p, I)) (over (λ (p : MappingAndQuery). wanted p.0) (saying source_refusal (source_stages P.passes)))
+    into (λ (p : MappingAndQuery) (I : List TableRows). (p, I))
+    (over (λ (p : MappingAndQuery). wanted p.0) (saying source_refusal (source_stages P.passes)))
 
 -- the mapping with the rows
 abbrev pub with_source_rows : MappingAndQuery × List TableRows → MappingAndRows
@@ -89,7 +92,8 @@ with_source_rows p = (p.0.0, p.1)
 -- their exchange in plain mode
 abbrev pub query_target : Program → Stage Refusal (MappingAndQuery × List TableRows) (MappingAndQuery × Exchange)
 query_target P =
-    into (λ (p : MappingAndQuery × List TableRows) (e : Exchange). (p.0, e)) (over with_source_rows (by (named_stage P.apply Plain)))
+    into (λ (p : MappingAndQuery × List TableRows) (e : Exchange). (p.0, e))
+    (over with_source_rows (by (named_stage P.apply Plain)))
 
 -- ---- the answers on the target
 
@@ -100,11 +104,14 @@ QueryAndExchange = Query × Exchange
 -- the answers have more cells than they may have
 abbrev pub PassAnswerCells : QueryAndExchange → Refusal → Type 0
 PassAnswerCells p e =
-    AnswersPassLimit (facts p.1.target) p.0 answer_cells × (e ≡ refusals.Limit (record { what = AnswerCells; number = answer_cells }))
+    AnswersPassLimit (facts p.1.target) p.0 answer_cells
+    × (e ≡ refusals.Limit (record { what = AnswerCells; number = answer_cells }))
 
 -- the rows of constants among the answers, ascending
 abbrev pub AreAnswers : QueryAndExchange → Answers → Type 0
-AreAnswers p a = (a.exchange ≡ p.1) × AreConstantAnswers (facts p.1.target) p.0 a.rows × (length a.rows * p.0.width ≤ answer_cells)
+AreAnswers p a =
+    (a.exchange ≡ p.1) × AreConstantAnswers (facts p.1.target) p.0 a.rows
+    × (length a.rows * p.0.width ≤ answer_cells)
 
 abbrev pub listed_answers : Stage Refusal QueryAndExchange Answers
 listed_answers = notions PassAnswerCells AreAnswers
@@ -112,7 +119,8 @@ listed_answers = notions PassAnswerCells AreAnswers
 -- the answers, beside the mapping and the query
 abbrev pub query_answers : Stage Refusal (MappingAndQuery × Exchange) (MappingAndQuery × Answers)
 query_answers =
-    into (λ (p : MappingAndQuery × Exchange) (a : Answers). (p.0, a)) (over (λ (p : MappingAndQuery × Exchange). (p.0.1, p.1)) listed_answers)
+    into (λ (p : MappingAndQuery × Exchange) (a : Answers). (p.0, a))
+    (over (λ (p : MappingAndQuery × Exchange). (p.0.1, p.1)) listed_answers)
 
 -- a mapping text, a query, the source files, their exchange, and its answers
 abbrev pub answers : Program → Stage Refusal (Unit {0}) (MappingAndQuery × Answers)

@@ -16,5 +16,7 @@ AnswersOrRefusal = (P : Program) → IsDecided AreAlike (λ u. Unit {0}) (answer
 -- the answers that are planned are exactly the certain ones, however they are written
 abbrev pub AnswersAreCertain : Type 0
 AnswersAreCertain =
-    (P : Program) (c : World) (p : MappingAndQuery) (a : Answers) (before after : OutputState) → (answers P).passes c (tt {0}) (p, a)
-    → (let plan = answered_plan (p, a) in wrote_all before after plan.files plan.text) → IsAnsweredIn P c a (wrote_all before after)
+    (P : Program) (c : World) (p : MappingAndQuery) (a : Answers) (before after : OutputState)
+    → (answers P).passes c (tt {0}) (p, a)
+    → (let plan = answered_plan (p, a) in wrote_all before after plan.files plan.text)
+    → IsAnsweredIn P c a (wrote_all before after)

@@ -14,17 +14,14 @@ use Rattle.clio_compare.specs.Outcomes.{IsComparedIn}
 use Rattle.clio_steps.specs.Outcomes.{Writing}
 use Rattle.clio_compare.proofs.Pairs.{made_in}
 
-pub compared_with : (P : Program) (c : World) (q : Mapping × Comparison) (files : List PrintedFile) (Wrote : Writing) → (comparisons P).passes c (tt {0}) q
+pub compared_with : (P : Program) (c : World) (q : Mapping × Comparison) (files : List PrintedFile) (Wrote : Writing)
+    → (comparisons P).passes c (tt {0}) q
     → AreComparedFiles q.0.source q.0.target q.1 files → Wrote (files_of files) (compared_text q.1 files) → IsComparedIn P c q.1 Wrote
 compared_with P c q files Wrote x are wrote =
     let m = made_in P c q x in
     let k = m.comparison in record {
-      text = m.text;
-      held = m.held;
       first = m.first;
       accepted = m.accepted;
-      other_text = m.other_text;
-      other_held = m.other_held;
       second = m.second;
       other_accepted = m.other_accepted;
       same = m.same;

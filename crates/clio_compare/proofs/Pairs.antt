@@ -37,7 +37,6 @@ use Rattle.dx_stages.specs.Running.{Gives, Ran}
 use Rattle.dx_stages.proofs.Running.{ran_into, ran_into_stop, ran_next, ran_over, ran_passes, ran_stop, ran_value, silent_apart}
 use Rattle.dx_stages.proofs.Decided.{Any, apart_by, become_decided, checking_decided, checking_one, into_decided, into_one, next_decided, next_one, notions_decided, over_decided, over_one}
 use Rattle.clio_accept.specs.declared.mapping.Mapping.{Mapping}
-use Rattle.clio_accept.specs.Accepting.{accepting}
 use Rattle.clio_accept.specs.Laws.{MappingFits}
 use Rattle.clio_accept.proofs.Accepted.{accepted_fits}
 use Rattle.clio_files.specs.Comparisons.{AreComparedFiles, FitsAnswer, FitsComparison}
@@ -50,6 +49,7 @@ use Rattle.clio_ending.specs.declared.faults.OtherFault.{OtherFault}
 use Rattle.clio_ending.specs.declared.faults.OtherFault.TheVariants as other_faults
 use Rattle.clio_ending.specs.Ending.{AreAlike}
 use Rattle.clio_steps.specs.declared.texts.Side.TheVariants.{First, Second}
+use Rattle.clio_steps.specs.Outcomes.{AcceptedIn}
 use Rattle.clio_steps.specs.Steps.{Program, mapping_stages, text_name, text_stages}
 use Rattle.clio_compare.specs.Comparing.{AreBothPlain, AreFree, ArePlain, AreReady, Differ, HasDerived, HaveConditions, HaveSameSets, IsComparedPlan, IsComparisonOf, IsFirstDerived, Pair, PassesFrozenLimit, comparable, compare_stages, compared_rules, comparing, comparisons, no_conditions, no_derived, other_stages, same_sets}
 use Rattle.clio_accept.specs.Mapping.{frozen_cells}
@@ -57,6 +57,7 @@ use Rattle.clio_steps.proofs.Mappings.{is_small}
 use Rattle.clio_steps.proofs.Names.{text_asks}
 use Rattle.clio_steps.proofs.Plans.{no_marks, some_column}
 use Rattle.clio_steps.proofs.Decided.{text_decided, text_one}
+use Rattle.clio_steps.proofs.Spine.{accepted_in, fits_in}
 
 -- ---- what is asked for
 
@@ -166,14 +167,10 @@ comparable_rules P p first second same plain = record {
 
 -- what is known of it
 pub record IsMade (P : Program) (c : World) (q : Mapping × Comparison) : Type 0 where
-  pub text : List ℕ
-  pub held : c (codes "mapping.clio") ≡ Some text
   pub first : Mapping
-  pub accepted : (accepting P.list P.tests).passes c text first
-  pub other_text : List ℕ
-  pub other_held : c (codes "other.clio") ≡ Some other_text
+  pub accepted : AcceptedIn P First c first
   pub second : Mapping
-  pub other_accepted : (accepting P.list P.tests).passes c other_text second
+  pub other_accepted : AcceptedIn P Second c second
   pub first_fits : MappingFits P.list P.tests first
   pub second_fits : MappingFits P.list P.tests second
   pub same : HaveSameSets (first, second)
@@ -186,21 +183,19 @@ abbrev with_comparison : Comparison → Pair → Mapping × Comparison
 with_comparison k p = (p.0, k)
 
 pub made_in : (P : Program) (c : World) (q : Mapping × Comparison) → (comparisons P).passes c (tt {0}) q → IsMade P c q
-made_in P c q (M, (text, found, accepted), (pair, (N, (other_text, other_found, other_accepted), pair_is), (tested, x, (k, (within, compared), q_is)))) =
+made_in P c q (M, m, (pair, (N, n, pair_is), (tested, x, (k, (within, compared), q_is)))) =
+    let first = accepted_in P First c M m in
+    let second = accepted_in P Second c N n in
     let s = passed_sets pair tested c x in
     let to : tested ≡ (M, N) = s.0 ∙ pair_is in
     let whole : q ≡ (M, k) = q_is ∙ ap (with_comparison k) to in
     subst (λ (z : Mapping × Comparison). IsMade P c z) (sym whole) (record {
-      text = text;
-      held = found.0;
       first = M;
-      accepted = accepted;
-      other_text = other_text;
-      other_held = other_found.0;
+      accepted = first;
       second = N;
-      other_accepted = other_accepted;
-      first_fits = accepted_fits P.list P.tests c text M (is_small text found.1) accepted;
-      second_fits = accepted_fits P.list P.tests c other_text N (is_small other_text other_found.1) other_accepted;
+      other_accepted = second;
+      first_fits = fits_in P First c M first;
+      second_fits = fits_in P Second c N second;
       same = subst (λ (z : Pair). HaveSameSets z) pair_is s.1;
       free = subst (λ (z : Pair). AreFree z) pair_is s.2;
       plain = subst (λ (z : Pair). AreBothPlain z) pair_is s.3;

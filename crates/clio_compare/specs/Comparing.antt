@@ -87,11 +87,14 @@ comparable = next same_sets (next no_conditions no_derived)
 -- a test passes the limit
 abbrev pub PassesFrozenLimit : Pair → Refusal → Type 0
 PassesFrozenLimit p e =
-    ComparisonPassesLimit frozen_cells p.0.rules p.1.rules × (e ≡ refusals.Limit (record { what = FrozenCells; number = frozen_cells }))
+    ComparisonPassesLimit frozen_cells p.0.rules p.1.rules
+    × (e ≡ refusals.Limit (record { what = FrozenCells; number = frozen_cells }))
 
 -- none does, and this is whether each list implies the other
 abbrev pub IsComparisonOf : Pair → Comparison → Type 0
-IsComparisonOf p k = (¬ (ComparisonPassesLimit frozen_cells p.0.rules p.1.rules)) × IsComparison p.0.source p.0.target p.0.rules p.1.rules k
+IsComparisonOf p k =
+    (¬ (ComparisonPassesLimit frozen_cells p.0.rules p.1.rules))
+    × IsComparison p.0.source p.0.target p.0.rules p.1.rules k
 
 -- the comparison of the rules
 abbrev pub compared_rules : Stage Refusal Pair Comparison
@@ -108,7 +111,8 @@ comparisons P = next (mapping_stages P) (next (other_stages P) (next comparable 
 -- the files that are written of a comparison, and what is said of it
 abbrev pub AreWritten : Mapping → Comparison → List Entry → Text → Type 0
 AreWritten M k entries text =
-    (files : List PrintedFile) × AreComparedFiles M.source M.target k files × (entries ≡ files_of files) × (text ≡ compared_text k files)
+    (files : List PrintedFile) × AreComparedFiles M.source M.target k files × (entries ≡ files_of files)
+    × (text ≡ compared_text k files)
 
 -- what is written of a comparison: the files of the instances that refute, and what is said
 abbrev pub IsComparedPlan : Mapping → Comparison → PlanContent Done → Type 0

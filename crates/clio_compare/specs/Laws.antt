@@ -21,5 +21,7 @@ ComparisonOrRefusal = (P : Program) → IsDecided AreAlike (λ u. Unit {0}) (com
 -- the comparison is that of the rules of both mapping texts
 abbrev pub ComparisonsAreSo : Type 0
 ComparisonsAreSo =
-    (P : Program) (c : World) (M : Mapping) (k : Comparison) (files : List PrintedFile) (before after : OutputState) → (comparisons P).passes c (tt {0}) (M, k)
-    → AreComparedFiles M.source M.target k files → wrote_all before after (files_of files) (compared_text k files) → IsComparedIn P c k (wrote_all before after)
+    (P : Program) (c : World) (M : Mapping) (k : Comparison) (files : List PrintedFile)
+    (before after : OutputState) → (comparisons P).passes c (tt {0}) (M, k)
+    → AreComparedFiles M.source M.target k files
+    → wrote_all before after (files_of files) (compared_text k files) → IsComparedIn P c k (wrote_all before after)

@@ -1,5 +1,5 @@
 -- A comparison in a world.
-use Rattle.std.specs.Prelude.{◌≡◌, ◌↔◌, ℕ, List, codes, Some}
+use Rattle.std.specs.Prelude.{◌≡◌, ◌↔◌, List}
 use Rattle.dx_model.specs.Following.{Implies}
 use Rattle.dx_model.specs.Values.{Conversions}
 use Rattle.dx_stages.specs.Worlds.{World}
@@ -7,28 +7,24 @@ use Rattle.dx_compare.specs.declared.comparing.Answer.TheVariants as answers
 use Rattle.dx_compare.specs.declared.comparing.Comparison.{Comparison}
 use Rattle.dx_compare.specs.Comparing.{IsComparison}
 use Rattle.clio_accept.specs.declared.mapping.Mapping.{Mapping}
-use Rattle.clio_accept.specs.Accepting.{accepting}
 use Rattle.clio_files.specs.Comparisons.{AreComparedFiles, compared_text}
 use Rattle.clio_files.specs.Files.{files_of}
 use Rattle.clio_files.specs.Sheets.{PrintedFile}
+use Rattle.clio_steps.specs.declared.texts.Side.TheVariants.{First, Second}
 use Rattle.clio_steps.specs.Steps.{Program}
-use Rattle.clio_steps.specs.Outcomes.{Writing}
+use Rattle.clio_steps.specs.Outcomes.{AcceptedIn, Writing}
 use Rattle.clio_compare.specs.Comparing.{AreBothPlain, AreFree, HaveSameSets}
 
 -- ---- a comparison
 
--- Two mapping texts that are accepted in a world, between the same sets, without conditions and conversions. A direction is implied
--- exactly if the one list of rules implies the other, and for one that is not there are two instances that show it; their files were
--- written, and then what is said of the comparison.
+-- Two mapping texts that are accepted in a world, between the same sets, without conditions and conversions. A
+-- direction is implied exactly if the one list of rules implies the other, and for one that is not there are two
+-- instances that show it; their files were written, and then what is said of the comparison.
 pub record IsComparedIn (P : Program) (c : World) (k : Comparison) (Wrote : Writing) : Type 0 where
-  pub text : List ℕ
-  pub held : c (codes "mapping.clio") ≡ Some text
   pub first : Mapping
-  pub accepted : (accepting P.list P.tests).passes c text first
-  pub other_text : List ℕ
-  pub other_held : c (codes "other.clio") ≡ Some other_text
+  pub accepted : AcceptedIn P First c first
   pub second : Mapping
-  pub other_accepted : (accepting P.list P.tests).passes c other_text second
+  pub other_accepted : AcceptedIn P Second c second
   pub same : HaveSameSets (first, second)
   pub free : AreFree (first, second)
   pub plain : AreBothPlain (first, second)

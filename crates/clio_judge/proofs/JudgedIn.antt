@@ -17,7 +17,7 @@ use Rattle.dx_stages.proofs.Decided.{Any, into_decided, into_one, next_decided, 
 use Rattle.clio_accept.specs.declared.mapping.Mapping.{Mapping}
 use Rattle.clio_accept.specs.Laws.{MappingFits}
 use Rattle.clio_accept.proofs.Accepted.{accepted_fits}
-use Rattle.clio_source.specs.Source.{source_left}
+use Rattle.clio_source.specs.Source.{source_left, source_stages, storing}
 use Rattle.clio_source.proofs.Decided.{left_decided, left_one}
 use Rattle.clio_given.specs.Given.{given_stages}
 use Rattle.clio_given.proofs.Decided.{given_decided, given_one}
@@ -34,6 +34,7 @@ use Rattle.clio_steps.specs.Outcomes.{Writing}
 use Rattle.clio_steps.proofs.Mappings.{is_small}
 use Rattle.clio_steps.proofs.Plans.{rules_fit}
 use Rattle.clio_steps.proofs.Decided.{text_decided, text_one}
+use Rattle.clio_steps.proofs.Spine.{accepted_in}
 
 -- ---- a verdict that was made
 
@@ -43,20 +44,26 @@ with_given K p = (p.0, K)
 with_verdict : Verdict → RowsAndTarget → Mapping × Verdict
 with_verdict v p = (p.0.0, v)
 
-pub judged_in : (P : Program) (c : World) (q : Mapping × Verdict) (Wrote : Writing) → (verdicts P).passes c (tt {0}) q → Wrote [] (verdict_text q.0.target q.1) → IsJudgedIn P c q.1 Wrote
+-- what was read, without the number of bytes that are left
+read_of : (P : Program) (c : World) (M : Mapping) (I : List TableRows) (left : ℕ)
+    → (source_left P.passes).passes c (wanted M) (I, left) → (source_stages P.passes).passes c (wanted M) I
+read_of P c M I left (r, files, (J, stored, is)) =
+    let rows = sym (ap (λ (q : List TableRows × ℕ). q.0) is) in
+    (r, files, subst (λ (K : List TableRows). (storing P.passes M.conditions M.source).passes c r K) rows stored)
+
+pub judged_in : (P : Program) (c : World) (q : Mapping × Verdict) (Wrote : Writing) → (verdicts P).passes c (tt {0}) q
+    → Wrote [] (verdict_text q.0.target q.1) → IsJudgedIn P c q.1 Wrote
 unfolding with_given with_verdict
 judged_in P c q Wrote
-    (M, (text, there, accepted), (sized, ((I, left), source, sized_is), (handed, (K, given, handed_is), (v, judgement, q_is)))) wrote =
+    (M, m, (sized, ((I, left), source, sized_is), (handed, (K, given, handed_is), (v, judgement, q_is)))) wrote =
     let to : handed ≡ ((M, I), K) = handed_is ∙ ap (with_given K) sized_is in
     let whole : q ≡ (M, v) = q_is ∙ ap (with_verdict v) to in
     subst (λ (z : Mapping × Verdict). IsJudgedIn P c z.1 Wrote) (sym whole) (record {
-      text = text;
-      held = there.0;
       mapping = M;
-      accepted = accepted;
       rows = I;
+      read = record { accepted = accepted_in P First c M m; source = read_of P c M I left source };
       left = left;
-      source = source;
+      left_is = source;
       target = K;
       given = subst (λ (z : RowsAndBytes). given_stages.passes c (wanted_given z) K) sized_is given;
       judgement = subst (λ (z : RowsAndTarget). IsJudgement P.apply (judged z) v) to judgement;

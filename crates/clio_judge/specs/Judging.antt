@@ -29,7 +29,8 @@ RowsAndBytes = MappingAndRows × ℕ
 -- the rows of the source files that pass the mapping's conditions, and how many bytes are left
 abbrev pub rows_and_bytes : Program → Stage Refusal Mapping RowsAndBytes
 rows_and_bytes P =
-    into (λ (M : Mapping) (q : List TableRows × ℕ). ((M, q.0), q.1)) (over wanted (saying source_refusal (source_left P.passes)))
+    into (λ (M : Mapping) (q : List TableRows × ℕ). ((M, q.0), q.1))
+    (over wanted (saying source_refusal (source_left P.passes)))
 
 -- a mapping and its rows, and a given target
 abbrev pub RowsAndTarget : Type 0
@@ -41,7 +42,9 @@ wanted_given p = record { schema = p.0.0.target; bytes_left = p.1 }
 
 -- the given target, beside the mapping and its rows
 abbrev pub given_rows : Stage Refusal RowsAndBytes RowsAndTarget
-given_rows = into (λ (p : RowsAndBytes) (K : List TableRows). (p.0, K)) (over wanted_given (saying source_refusal given_stages))
+given_rows =
+    into (λ (p : RowsAndBytes) (K : List TableRows). (p.0, K))
+    (over wanted_given (saying source_refusal given_stages))
 
 -- ---- the verdict
 
@@ -53,7 +56,13 @@ pub record HaveTablesOf (M : Mapping) (rows given : List TableRows) : Type 0 whe
 -- what is judged: the given target, as a target of the rows under the mapping
 abbrev pub judged : RowsAndTarget → JudgeInput
 judged p =
-    record { rules = p.0.0.rules; schema = model_tables p.0.0.target; rows = facts p.0.1; given = facts p.1; limit = target_cells }
+    record {
+      rules = p.0.0.rules;
+      schema = model_tables p.0.0.target;
+      rows = facts p.0.1;
+      given = facts p.1;
+      limit = target_cells;
+    }
 
 -- the refusal if there is no verdict; want of memory refuses nothing
 abbrev pub judge_refusal : JudgeFault → Option Refusal

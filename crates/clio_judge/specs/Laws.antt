@@ -19,5 +19,6 @@ VerdictOrRefusal = (P : Program) → IsDecided AreAlike (λ u. Unit {0}) (judge_
 -- the verdict is that on the given files, as a target of the source under the mapping
 abbrev pub VerdictsAreSo : Type 0
 VerdictsAreSo =
-    (P : Program) (c : World) (M : Mapping) (v : Verdict) (before after : OutputState) → (verdicts P).passes c (tt {0}) (M, v)
+    (P : Program) (c : World) (M : Mapping) (v : Verdict) (before after : OutputState)
+    → (verdicts P).passes c (tt {0}) (M, v)
     → wrote_all before after [] (verdict_text M.target v) → IsJudgedIn P c v (wrote_all before after)

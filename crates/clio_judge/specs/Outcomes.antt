@@ -1,5 +1,5 @@
 -- A verdict in a world, and the given files that are asked for.
-use Rattle.std.specs.Prelude.{◌≡◌, ◌++◌, ℕ, List, [], ◌∷◌, codes, length, Some}
+use Rattle.std.specs.Prelude.{◌≡◌, ◌++◌, ℕ, List, [], ◌∷◌, length}
 use Rattle.std.specs.List.{range_with_len}
 use Rattle.dx_stages.specs.Worlds.{World}
 use Rattle.dx_stages.specs.Stages.{each}
@@ -8,26 +8,23 @@ use Rattle.dx_instance.specs.Stored.{TableRows}
 use Rattle.dx_judge.specs.declared.verdict.Verdict.{Verdict}
 use Rattle.dx_judge.specs.Verdicts.{IsJudgement}
 use Rattle.clio_accept.specs.declared.mapping.Mapping.{Mapping}
-use Rattle.clio_accept.specs.Accepting.{accepting}
 use Rattle.clio_source.specs.Source.{ReadState, source_left}
 use Rattle.clio_given.specs.Given.{TargetRequest, given_name, given_stages, none_read, given_reading}
 use Rattle.clio_files.specs.Verdicts.{verdict_text}
 use Rattle.clio_steps.specs.Steps.{Program, wanted}
-use Rattle.clio_steps.specs.Outcomes.{Writing}
+use Rattle.clio_steps.specs.Outcomes.{ReadIn, Writing}
 use Rattle.clio_judge.specs.Judging.{judged, wanted_given}
 
 -- ---- a verdict
 
--- The verdict on the given files in a world, as a target of the rows of its source files under a mapping text that is accepted there; no
--- file was put, and the line of the verdict was said.
+-- The verdict on the given files in a world, as a target of the rows of its source files; no file was put, and the line
+-- of the verdict was said. The given files may have the bytes that the source left.
 pub record IsJudgedIn (P : Program) (c : World) (v : Verdict) (Wrote : Writing) : Type 0 where
-  pub text : List ℕ
-  pub held : c (codes "mapping.clio") ≡ Some text
   pub mapping : Mapping
-  pub accepted : (accepting P.list P.tests).passes c text mapping
   pub rows : List TableRows
+  pub read : ReadIn P c mapping rows
   pub left : ℕ
-  pub source : (source_left P.passes).passes c (wanted mapping) (rows, left)
+  pub left_is : (source_left P.passes).passes c (wanted mapping) (rows, left)
   pub target : List TableRows
   pub given : given_stages.passes c (wanted_given ((mapping, rows), left)) target
   pub judgement : IsJudgement P.apply (judged ((mapping, rows), target)) v

@@ -16,7 +16,6 @@ use Rattle.dx_stages.specs.Worlds.{World}
 use Rattle.clio_accept.specs.declared.fault.AcceptFault.{AcceptFault}
 use Rattle.clio_accept.specs.declared.fault.AcceptFault.TheVariants as accept_faults
 use Rattle.clio_accept.specs.declared.mapping.Mapping.{Mapping}
-use Rattle.clio_accept.proofs.Accepted.{accepted_fits}
 use Rattle.clio_source.specs.declared.fault.SourceRefusal.{SourceRefusal}
 use Rattle.clio_source.specs.declared.fault.SourceRefusal.TheVariants as source_refusals
 use Rattle.clio_ending.specs.declared.faults.OtherFault.TheVariants as other_faults
@@ -26,9 +25,9 @@ use Rattle.clio_ending.specs.Ending.{exchange_refusal, named_clash, source_refus
 use Rattle.clio_steps.specs.declared.texts.Side.{Side}
 use Rattle.clio_steps.specs.declared.texts.Side.TheVariants.{First, Second}
 use Rattle.clio_steps.specs.Steps.{MappingAndRows, Program, absent_text, exchange_input, exchanges, rows_stages, side_refusal, text_stages}
-use Rattle.clio_steps.specs.Outcomes.{IsClashIn, HasNoSolutionIn}
-use Rattle.clio_steps.proofs.Mappings.{is_small}
+use Rattle.clio_steps.specs.Outcomes.{HasNoSolutionIn, IsClashIn, ReadIn}
 use Rattle.clio_steps.proofs.Plans.{rules_fit}
+use Rattle.clio_steps.proofs.Spine.{accepted_in, accepted_passes, all_within, fits_in, read_passes}
 
 -- ---- which refusals are clashes
 
@@ -104,40 +103,46 @@ pub exchange_clashes : (P : Program) (mode : Mode) (c : World) (k : Clash) (tabl
     → (exchanges P mode).refuses c (tt {0}) (refusals.Clash k table key column) → IsClashIn P mode c k table key column
 unfolding is_clash
 exchange_clashes P mode c k table key column (inl m) = absurd (true≢false (text_never P First c (refusals.Clash k table key column) m))
-exchange_clashes P mode c k table key column (inr (M, (text, there, accepted), inl r)) =
+exchange_clashes P mode c k table key column (inr (M, m, inl r)) =
     absurd (true≢false (rows_never P c M (refusals.Clash k table key column) r))
-exchange_clashes P mode c k table key column (inr (M, (text, there, accepted), inr (pair, (I, source, pair_is), (fault, none, is)))) = record {
-  text = text;
-  held = there.0;
-  mapping = M;
-  accepted = accepted;
-  rows = I;
-  source = source;
-  clash = subst (λ (r : MappingAndRows). HasClash P.apply (exchange_input mode r) k) pair_is (clash_of P mode pair pair.0.target k table key column fault none is);
-  named = subst (λ (r : MappingAndRows). refusals.Clash k table key column ≡ named_clash r.0.target k) pair_is (named_of P mode pair pair.0.target k table key column fault none is);
-}
+exchange_clashes P mode c k table key column (inr (M, m, inr (pair, (I, source, pair_is), (fault, none, is)))) =
+    let clash = subst (λ (r : MappingAndRows). HasClash P.apply (exchange_input mode r) k) pair_is
+    (clash_of P mode pair pair.0.target k table key column fault none is) in
+    let read : ReadIn P c M I = record { accepted = accepted_in P First c M m; source = source } in
+    record {
+      mapping = M;
+      rows = I;
+      clash = clash;
+      matched = record { read = read; are = clash.are; within = clash.within };
+      named = subst (λ (r : MappingAndRows). refusals.Clash k table key column ≡ named_clash r.0.target k) pair_is
+          (named_of P mode pair pair.0.target k table key column fault none is);
+    }
 
 -- ---- without a solution there is a clash
 
 pub clash_there : (P : Program) (mode : Mode) (c : World) (h : HasNoSolutionIn P c)
     → (k : Clash) × (exchanging P.apply).refuses c (exchange_input mode (h.mapping, h.rows)) (exchange_faults.Clash k)
 clash_there P mode c h =
-    let fits = accepted_fits P.list P.tests c h.text h.mapping (is_small h.text h.few) h.accepted in
+    let fits = fits_in P First c h.mapping h.matched.read.accepted in
     let d = exchange_or_none P.apply P.list (model_tables h.mapping.source) in
     of (d.either c (exchange_input mode (h.mapping, h.rows)) (rules_fit P h.mapping fits))
   where
-    of : ((e : Exchange) × IsExchange P.apply (exchange_input mode (h.mapping, h.rows)) e) ⊎ ((f : ExFault) × HasNoExchange P.apply (exchange_input mode (h.mapping, h.rows)) f)
+    of : ((e : Exchange) × IsExchange P.apply (exchange_input mode (h.mapping, h.rows)) e)
+        ⊎ ((f : ExFault) × HasNoExchange P.apply (exchange_input mode (h.mapping, h.rows)) f)
         → (k : Clash) × (exchanging P.apply).refuses c (exchange_input mode (h.mapping, h.rows)) (exchange_faults.Clash k)
     of (inl (e, x)) = absurd (h.none (facts e.target) x.universal.solution)
     of (inr (exchange_faults.Clash k, x)) = (k, x)
-    of (inr (exchange_faults.Limit l, x)) = let few = h.within x.matches x.are in let many = x.many in absurd (omega (arith, few, many))
+    of (inr (exchange_faults.Limit l, x)) =
+        let few = all_within P c h.mapping h.rows h.matches x.matches h.matched x.are in
+        let many = x.many in absurd (omega (arith, few, many))
     of (inr (exchange_faults.Memory, x)) = absurd x
 
 -- so the exchange is refused
 pub exchange_refused : (P : Program) (mode : Mode) (c : World) (h : HasNoSolutionIn P c)
     → (k : Clash) × (exchanges P mode).refuses c (tt {0}) (named_clash h.mapping.target k)
 exchange_refused P mode c h =
-    let k = clash_there P mode c h in (
-      k.0,
-      inr (h.mapping, (h.text, (h.held, h.few), h.accepted), inr ((h.mapping, h.rows), (h.rows, h.source, refl), (exchange_faults.Clash k.0, k.1, refl))),
-    )
+    let k = clash_there P mode c h in
+    let read = h.matched.read in
+    let rows = read_passes P c h.mapping h.rows read in
+    let accepted = accepted_passes P First c h.mapping read.accepted in
+    (k.0, inr (h.mapping, accepted, inr ((h.mapping, h.rows), rows, (exchange_faults.Clash k.0, k.1, refl))))

@@ -1,31 +1,25 @@
 -- An exchange that the stages pass on, in a world.
-use Rattle.std.proofs.Common.{◌≡◌, sym, ◌∙◌, ap, subst}
+use Rattle.std.proofs.Common.{◌≡◌, List, sym, ◌∙◌, ap, subst}
 use Rattle.dx_exchange.specs.declared.mode.Mode.{Mode}
 use Rattle.dx_exchange.specs.declared.result.Exchange.{Exchange}
 use Rattle.dx_exchange.specs.Exchanging.{IsExchange}
+use Rattle.dx_instance.specs.Stored.{TableRows}
 use Rattle.dx_stages.specs.Worlds.{World}
 use Rattle.dx_stages.specs.Ending.{PlanContent}
 use Rattle.clio_accept.specs.declared.mapping.Mapping.{Mapping}
 use Rattle.clio_ending.specs.declared.ending.Done.{Done}
+use Rattle.clio_steps.specs.declared.texts.Side.TheVariants.{First}
 use Rattle.clio_steps.specs.Steps.{MappingAndRows, Program, exchange_input, exchanges}
-use Rattle.clio_steps.specs.Outcomes.{IsExchangeIn, Writing}
+use Rattle.clio_steps.specs.Outcomes.{ExchangedIn, Writing}
+use Rattle.clio_steps.proofs.Spine.{accepted_in, exchanged_in}
 
--- ---- an exchange in a world
-
-abbrev pub in_world : (P : Program) (mode : Mode) (c : World) (q : Mapping × Exchange) → (exchanges P mode).passes c (tt {0}) q → IsExchangeIn P mode c q.1
-in_world P mode c q (M, (text, there, accepted), (pair, (I, source, pair_is), (x, exchange, q_is))) = record {
-  text = text;
-  held = there.0;
-  mapping = M;
-  accepted = accepted;
-  rows = I;
-  source = source;
-  exchange = subst (IsExchange P.apply (exchange_input mode (M, I))) (sym (ap (λ (r : Mapping × Exchange). r.1) q_is)) (subst (λ (r : MappingAndRows). IsExchange P.apply (exchange_input mode r) x) pair_is exchange);
-}
-
--- its mapping is the one that was passed on
-pub its_mapping : (P : Program) (mode : Mode) (c : World) (q : Mapping × Exchange) (x : (exchanges P mode).passes c (tt {0}) q) → q.0 ≡ (in_world P mode c q x).mapping
-its_mapping P mode c q (M, m, (pair, r, (x, exchange, q_is))) = ap (λ (t : Mapping × Exchange). t.0) q_is ∙ ap (λ (t : MappingAndRows). t.0) r.2
+pub in_world : (P : Program) (mode : Mode) (c : World) (q : Mapping × Exchange) → (exchanges P mode).passes c (tt {0}) q
+    → (rows : List TableRows) × ExchangedIn P mode c q.0 rows q.1
+in_world P mode c q (M, m, (pair, (I, source, pair_is), (x, exchange, q_is))) =
+    let whole : q ≡ (M, x) = q_is ∙ ap (λ (r : MappingAndRows). (r.0, x)) pair_is in
+    let made = subst (λ (r : MappingAndRows). IsExchange P.apply (exchange_input mode r) x) pair_is exchange in
+    let is = exchanged_in P mode c M I x (record { accepted = accepted_in P First c M m; source = source }) made in
+    (I, subst (λ (r : Mapping × Exchange). ExchangedIn P mode c r.0 I r.1) (sym whole) is)
 
 -- what was written of a plan
 pub as_planned : (Wrote : Writing) (p r : PlanContent Done) → p ≡ r → Wrote p.files p.text → Wrote r.files r.text

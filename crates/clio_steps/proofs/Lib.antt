@@ -10,3 +10,4 @@ pub mod Reasons
 pub mod SameExchange
 pub mod There
 pub mod Solved
+pub mod Spine

@@ -24,7 +24,8 @@ use Rattle.clio_ending.specs.Ending.{exchange_refusal, mapping_refusal, other_re
 use Rattle.clio_steps.specs.declared.texts.Side.{Side}
 use Rattle.clio_steps.specs.declared.texts.Side.TheVariants.{First, Second}
 
--- what the program can do: the conversions and the row tests that it lists, what each conversion means, and what passes each test
+-- what the program can do: the conversions and the row tests that it lists, what each conversion means,
+-- and what passes each test
 pub record Program : Type 0 where
   pub list : List Conversion
   pub tests : List RowTest
@@ -42,7 +43,7 @@ text_bytes = TEXT_BYTES
 abbrev pub target_cells : ℕ
 target_cells = TARGET_CELLS
 
--- ---- the mapping texts
+-- ---- the mapping texts: steps 1 to 3 of docs/HOW-IT-WORKS.md
 
 -- the name of a mapping text's file: of the mapping, or of the one that it is compared with
 abbrev pub text_name : Side → List ℕ
@@ -73,7 +74,7 @@ text_stages P side = next (text_file side) (saying_if (side_refusal side) (accep
 abbrev pub mapping_stages : Program → Stage Refusal (Unit {0}) Mapping
 mapping_stages P = text_stages P First
 
--- ---- the rows
+-- ---- the rows: step 4
 
 -- a mapping, and the rows of its source files that pass its conditions
 abbrev pub MappingAndRows : Type 0
@@ -88,7 +89,7 @@ abbrev pub rows_stages : Program → Stage Refusal Mapping MappingAndRows
 rows_stages P =
     into (λ (M : Mapping) (I : List TableRows). (M, I)) (over wanted (saying source_refusal (source_stages P.passes)))
 
--- ---- the exchange
+-- ---- the exchange: steps 5 to 8
 
 -- what is asked: the exchange of these rows under this mapping
 abbrev pub exchange_input : Mode → MappingAndRows → ExchangeInput

@@ -14,36 +14,45 @@ use Rattle.clio_ending.specs.declared.ending.Done.{Done}
 use Rattle.clio_top.specs.declared.command.Command.{Command}
 use Rattle.clio_top.specs.declared.command.Command.TheVariants.{Answering, Comparing, Demonstrating, Exchanging, Judging, Showing}
 use Rattle.clio_top.specs.Words.{or_usage, says}
+use Rattle.clio_steps.specs.declared.texts.Side.TheVariants.{First}
 use Rattle.clio_steps.specs.Steps.{Program, exchanges}
 use Rattle.clio_top.specs.Demo.{demo_text, demo_world}
 use Rattle.clio_top.specs.Commands.{run_stages, stages_of}
-use Rattle.clio_top.specs.Outcomes.{IsDemoIn, IsDoneIn}
+use Rattle.clio_top.specs.Outcomes.{IsDemoIn, WrittenIn}
 use Rattle.clio_steps.specs.Outcomes.{Writing, wrote_all}
 use Rattle.clio_top.specs.Promises.{AsAsked, DoneIsAsAsked}
 use Rattle.clio_judge.proofs.JudgedIn.{judged_in}
 use Rattle.clio_answer.proofs.AnsweredIn.{answered_in}
-use Rattle.clio_steps.proofs.InWorld.{in_world, its_mapping, as_planned}
+use Rattle.clio_steps.proofs.InWorld.{in_world, as_planned}
+use Rattle.clio_steps.proofs.Spine.{accepted_in}
 use Rattle.clio_compare.proofs.ComparedIn.{compared_with}
 
-done_with : (P : Program) (mode : Mode) (nested : Bool) (c : World) (q : Mapping × Exchange) (files : List PrintedFile) (Wrote : Writing)
-    → (exchanges P mode).passes c (tt {0}) q → AreFiles q.0.source q.0.target P.list mode nested q.0.rules q.1 files
-    → Wrote (files_of files) (summary_of files) → IsDoneIn P mode nested c q.1 Wrote
-done_with P mode nested c q files Wrote x are wrote = record {
-  exchange = in_world P mode c q x;
-  files = files;
-  are = subst (λ (N : Mapping). AreFiles N.source N.target P.list mode nested N.rules q.1 files) (its_mapping P mode c q x) are;
-  written = wrote;
-}
+done_with : (P : Program) (mode : Mode) (nested : Bool) (c : World) (q : Mapping × Exchange) (files : List PrintedFile)
+    (Wrote : Writing) → (exchanges P mode).passes c (tt {0}) q
+    → AreFiles q.0.source q.0.target P.list mode nested q.0.rules q.1 files
+    → Wrote (files_of files) (summary_of files) → WrittenIn P mode nested c q.1 Wrote
+done_with P mode nested c q files Wrote x are wrote =
+    let exchanged = in_world P mode c q x in record {
+      mapping = q.0;
+      rows = exchanged.0;
+      exchanged = exchanged.1;
+      files = files;
+      are = are;
+      written = wrote;
+    }
 
 demo_with : (P : Program) (number : ℕ) (mode : Mode) (q : Mapping × Exchange) (nulls : List NullId) (Wrote : Writing)
     → (exchanges P mode).passes (demo_world number) (tt {0}) q → AreTargetNulls (facts q.1.target) nulls
     → Wrote [] (demo_text number q.0 q.1.target (length nulls)) → IsDemoIn P number mode q.1 Wrote
-demo_with P number mode q nulls Wrote x are wrote = record {
-  exchange = in_world P mode (demo_world number) q x;
-  nulls = nulls;
-  nulls_are = are;
-  written = subst (λ (N : Mapping). Wrote [] (demo_text number N q.1.target (length nulls))) (its_mapping P mode (demo_world number) q x) wrote;
-}
+demo_with P number mode q nulls Wrote x are wrote =
+    let exchanged = in_world P mode (demo_world number) q x in record {
+      mapping = q.0;
+      rows = exchanged.0;
+      exchanged = exchanged.1;
+      nulls = nulls;
+      nulls_are = are;
+      written = wrote;
+    }
 
 -- ---- each command
 
@@ -52,9 +61,9 @@ asked_by : (P : Program) (c : World) (words : List (List ℕ)) (k : Command) (p 
 asked_by P c words (Exchanging mode nested) p Wrote w (q, x, (files, are, plan)) wrote =
     subst (λ (r : PlanContent Done). AsAsked P c words r.done Wrote) (sym plan)
     (mode, nested, w, done_with P mode nested c q files Wrote x are (as_planned Wrote p _ plan wrote))
-asked_by P c words (Showing mode) p Wrote w (M, (text, there, accepted), plan) wrote =
+asked_by P c words (Showing mode) p Wrote w (M, m, plan) wrote =
     subst (λ (r : PlanContent Done). AsAsked P c words r.done Wrote) (sym plan)
-    (mode, w, record { text = text; held = there.0; mapping = M; accepted = accepted; written = as_planned Wrote p _ plan wrote })
+    (mode, w, record { mapping = M; accepted = accepted_in P First c M m; written = as_planned Wrote p _ plan wrote })
 asked_by P c words (Demonstrating number mode) p Wrote w (q, x, (ns, are, plan)) wrote =
     subst (λ (r : PlanContent Done). AsAsked P c words r.done Wrote) (sym plan)
     (number, mode, w, demo_with P number mode q ns Wrote x are (as_planned Wrote p _ plan wrote))

@@ -20,7 +20,7 @@ use Rattle.dx_model.specs.declared.values.Value.{Value}
 use Rattle.dx_model.specs.declared.values.Value.TheVariants.{Const, Null}
 use Rattle.dx_model.specs.Chase.{AreSteps, IsClashAt, after}
 use Rattle.dx_model.specs.Covers.{least_cover}
-use Rattle.dx_model.specs.Rules.{AreRows, canonical}
+use Rattle.dx_model.specs.Rules.{canonical}
 use Rattle.dx_model.specs.Solutions.{IsSolution}
 use Rattle.dx_model.specs.Tables.{Determination, Table, cell, fact_of_row, table_of, determination_at}
 use Rattle.dx_model.specs.Values.{Conversions, Rows, row_cmp}
@@ -42,7 +42,6 @@ use Rattle.dx_schema_text.specs.Spelling as spelling
 use Rattle.dx_schema_text.specs.Texts.{IsMappingText, deepest}
 use Rattle.dx_instance.specs.Stored.{TableRows, facts}
 use Rattle.dx_csv.specs.Table.{table_records}
-use Rattle.dx_tgd.specs.Counting.{canonical_cells}
 use Rattle.dx_keys.specs.declared.answers.Clash.{Clash}
 use Rattle.dx_keys.specs.Answers.{IsClash}
 use Rattle.dx_exchange.specs.declared.mode.Mode.{Mode}
@@ -51,21 +50,19 @@ use Rattle.dx_exchange.specs.Exchanging.{HasClash, meant}
 use Rattle.clio_accept.specs.declared.mapping.Mapping.{Mapping}
 use Rattle.clio_accept.specs.Accepting.{accepting, between_of, taking}
 use Rattle.clio_accept.specs.Mapping.{AreRulesOf, NoneReserved}
-use Rattle.clio_accept.proofs.Decided.{accepting_one}
-use Rattle.clio_source.specs.Source.{source_stages}
-use Rattle.clio_source.proofs.Decided.{source_one}
 use Rattle.clio_ending.specs.declared.ending.Refusal.{Refusal}
 use Rattle.clio_ending.specs.declared.ending.Refusal.TheVariants as refusals
 use Rattle.clio_ending.specs.Ending.{named_clash}
-use Rattle.clio_steps.specs.Outcomes.{HasNoSolutionIn, IsClashIn}
-use Rattle.clio_steps.specs.Steps.{Program, exchange_input, target_cells, wanted}
+use Rattle.clio_steps.specs.Outcomes.{HasNoSolutionIn, IsClashIn, ReadIn}
+use Rattle.clio_steps.specs.Steps.{MappingAndRows, Program, exchange_input}
+use Rattle.clio_steps.proofs.Spine.{one_read}
 use Rattle.clio_top.specs.declared.command.Command.TheVariants.{Answering, Demonstrating, Exchanging}
 use Rattle.clio_top.specs.KeyedWorlds.{ClashIsRefused, ClashIsThis, IsSmallClash, clashing_text, clashing_world, exchange_words}
 use Rattle.clio_top.specs.Words.{Word, says}
 use Rattle.clio_top.proofs.Clashes.{no_solution}
 use Rattle.clio_top.proofs.Examples.{ann_ascii, mark, no_links, word}
 use Rattle.clio_top.proofs.OneRule.{is_left, not_tested}
-use Rattle.clio_top.proofs.TwoEmps.{TwoEmps, emp_side, emps, emps_are, hr_ascii, is_source, it_ascii, matched_first, matched_second, matches_are, of_emps, rows, t0, t1, t10, t11, t12, t13, t14, t15, t2, t3, t4, t5, t6, t7, t8, t9, tuples, whole}
+use Rattle.clio_top.proofs.TwoEmps.{TwoEmps, are_rows, emp_side, emps, emps_are, hr_ascii, is_source, it_ascii, matched_first, matched_second, matches_are, of_emps, rows, t0, t1, t10, t11, t12, t13, t14, t15, t2, t3, t4, t5, t6, t7, t8, t9, tuples, whole}
 
 -- ---- what is held
 
@@ -333,11 +330,11 @@ emp_rows = rows clashing_world two
 abbrev matches : Rows
 matches = tuples clashing_world two ∷ []
 
-few_cells : (convert : Conversions) (found : Rows) → AreRows convert (rule ∷ []) (facts emp_rows) found
-    → canonical_cells (rule ∷ []) found ≤ target_cells
-few_cells convert found a =
-    subst (λ (r : Rows). canonical_cells (rule ∷ []) r ≤ target_cells)
-    (sym (matches_are clashing_world two convert (person_atom ∷ []) found refl a)) (omega arith)
+is_read : (P : Program) → ReadIn P clashing_world mapping emp_rows
+is_read P = record {
+  accepted = record { text = clashing_text; held = record { is = has_text; few = omega arith }; accepted = accepted P };
+  source = is_source clashing_world two P;
+}
 
 -- ---- there is no solution
 
@@ -365,14 +362,14 @@ none_solves convert K s =
 
 has_none : (P : Program) → HasNoSolutionIn P clashing_world
 has_none P = record {
-  text = clashing_text;
-  held = has_text;
-  few = omega arith;
   mapping = mapping;
-  accepted = accepted P;
   rows = emp_rows;
-  source = is_source clashing_world two P;
-  within = few_cells P.apply;
+  matches = matches;
+  matched = record {
+    read = is_read P;
+    are = (are_rows clashing_world two P.apply (person_atom ∷ []) refl, tt);
+    within = omega arith;
+  };
   none = none_solves P.apply;
 }
 
@@ -504,30 +501,13 @@ this_clash P mode k table key column h is =
     let two_rows = rows_are k.column k.left k.right (after k.steps (meant mode (rule ∷ []) matches)) part at clash.lesser in
     let names = named_so k table key column is place.0 place.1 two_rows.2 in (two_rows.0, two_rows.1, names.0, names.1, names.2)
 
-text_of : (held : List ℕ) → clashing_world (codes "mapping.clio") ≡ Some held → held ≡ clashing_text
-text_of held is = same_Some held clashing_text (sym is ∙ has_text)
-
-mapping_of : (P : Program) (held : List ℕ) (M : Mapping) → clashing_world (codes "mapping.clio") ≡ Some held
-    → (accepting P.list P.tests).passes clashing_world held M → M ≡ mapping
-mapping_of P held M is a =
-    accepting_one P.list P.tests clashing_world clashing_text M mapping
-    (subst (λ (t : List ℕ). (accepting P.list P.tests).passes clashing_world t M) (text_of held is) a) (accepted P)
-
-source_is : (P : Program) (I : List TableRows) → (source_stages P.passes).passes clashing_world (wanted mapping) I → I ≡ emp_rows
-source_is P I s = source_one P.passes clashing_world (wanted mapping) I emp_rows s (is_source clashing_world two P)
-
 clash_in : (P : Program) (mode : Mode) (k : Clash) (table : Text) (key : List Text) (column : Text)
     → IsClashIn P mode clashing_world k table key column → IsSmallClash k table key column
-clash_in P mode k table key column h = of h.mapping (mapping_of P h.text h.mapping h.held h.accepted) h.source h.clash h.named
-  where
-    of : (M : Mapping) → M ≡ mapping → (source_stages P.passes).passes clashing_world (wanted M) h.rows
-        → HasClash P.apply (exchange_input mode (M, h.rows)) k → refusals.Clash k table key column ≡ named_clash M.target k
-        → IsSmallClash k table key column
-    of M is s clash named =
-        let same = subst (λ (N : Mapping). (source_stages P.passes).passes clashing_world (wanted N) h.rows) is s in
-        let of_one = subst (λ (N : Mapping). HasClash P.apply (exchange_input mode (N, h.rows)) k) is clash in
-        this_clash P mode k table key column (subst (λ (I : List TableRows). HasClash P.apply (exchange_input mode (mapping, I)) k) (source_is P h.rows same) of_one)
-        (named ∙ ap (λ (N : Mapping). named_clash N.target k) is)
+clash_in P mode k table key column h =
+    let is = one_read P clashing_world (h.mapping, h.rows) (mapping, emp_rows) h.matched.read (is_read P) in
+    let clash = subst (λ (p : MappingAndRows). HasClash P.apply (exchange_input mode p) k) is h.clash in
+    this_clash P mode k table key column clash
+    (h.named ∙ ap (λ (p : MappingAndRows). named_clash p.0.target k) is)
 
 -- words of an exchange ask for no demo and for no answers
 no_demo : (words : List Word) → words ∈ exchange_words → (number : ℕ) (mode : Mode) → ¬ (says words ≡ Some (Demonstrating number mode))

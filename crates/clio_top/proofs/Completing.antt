@@ -19,7 +19,7 @@ use Rattle.dx_stages.specs.declared.plan.Ended.{Ended}
 use Rattle.dx_stages.specs.declared.plan.Ended.TheVariants as endeds
 use Rattle.dx_stages.specs.Ending.{Counts, Ends, IsOutside, IsRefusedAs, PlanContent, RunsIn}
 use Rattle.dx_stages.specs.Worlds.{World}
-use Rattle.clio_accept.proofs.Accepted.{accepted_fits}
+use Rattle.clio_accept.specs.declared.mapping.Mapping.{Mapping}
 use Rattle.clio_ending.specs.declared.ending.Done.{Done}
 use Rattle.clio_ending.specs.declared.ending.Done.TheVariants as dones
 use Rattle.clio_ending.specs.declared.ending.Ending.{Ending}
@@ -35,14 +35,14 @@ use Rattle.clio_steps.specs.Steps.{Program}
 use Rattle.clio_top.specs.Demo.{demo_world}
 use Rattle.clio_top.specs.Commands.{run_stages, stages_of}
 use Rattle.clio_top.specs.Promises.{AsksFor}
-use Rattle.clio_steps.specs.Outcomes.{HasNoSolutionIn, HasMappingIn, HasSolutionIn}
+use Rattle.clio_steps.specs.declared.texts.Side.TheVariants.{First}
 use Rattle.clio_top.specs.Completing.{AnswersArePlanned, AnswersClash, Completes, CompletesDemo, DemoIsPlanned, HasDone, HasNoFault, MappingIsShown, NoAnswerIsAClash, OrMemory, SolutionIsPlanned}
 use Rattle.clio_answer.specs.Answering.{answers, query_stages}
 use Rattle.clio_answer.specs.Outcomes.{HasFewAnswers, HasQueryIn}
 use Rattle.clio_top.proofs.Asking.{in_order}
 use Rattle.clio_steps.proofs.Clashes.{clash_there}
 use Rattle.clio_top.proofs.Clashes.{demo_clashes, no_solution}
-use Rattle.clio_steps.proofs.Mappings.{is_small}
+use Rattle.clio_steps.proofs.Spine.{accepted_passes, fits_in}
 use Rattle.clio_top.proofs.Asked.{said}
 use Rattle.clio_top.proofs.Promised.{demo_exists, plan_exists}
 use Rattle.clio_top.proofs.RunDecided.{run_decided}
@@ -51,13 +51,13 @@ use Rattle.clio_steps.proofs.There.{exchange_there, exchange_passed}
 pub planned : SolutionIsPlanned
 planned P c words mode nested w h =
     let x = exchange_there P mode c h in
-    let fits = accepted_fits P.list P.tests c h.text h.mapping (is_small h.text h.few) h.accepted in
+    let fits = fits_in P First c h.mapping h.matched.read.accepted in
     let plan = plan_exists P mode nested h.mapping x.0 (record { fits = fits; rows = h.rows; exchange = x.1 }) in
     let passed = exchange_passed P mode c h x.0 x.1 in
     (x.0, (plan.0, (Exchanging mode nested, ap or_usage w, ((h.mapping, x.0), passed, plan.1)), ap (λ (p : PlanContent Done). p.done) plan.1.2))
 
 pub shown : MappingIsShown
-shown P c words mode w h = (_, (Showing mode, ap or_usage w, (h.mapping, (h.text, (h.held, h.few), h.accepted), refl)), refl)
+shown P c words mode w M a = (_, (Showing mode, ap or_usage w, (M, accepted_passes P First c M a, refl)), refl)
 
 pub demo_planned : DemoIsPlanned
 demo_planned P c words number mode w h =
@@ -68,27 +68,37 @@ demo_planned P c words number mode w h =
 
 -- ---- the answers of a query
 
+-- a query that is there is posed
+posed : (c : World) (M : Mapping) (k : HasQueryIn M.target c) → query_stages.passes c M (M, k.query)
+posed c M k = (k.query, (k.text, (k.held, k.few), (k.query, k.said, (k.atoms, refl))), refl)
+
 pub answers_planned : AnswersArePlanned
 answers_planned P c words w h k few =
+    let M = h.mapping in
+    let read = h.matched.read in
     let x = exchange_there P Plain c h in
     let e = x.0 in
     let q = k.query in
-    let fits = read_queries_fit h.mapping.target k.text q k.said k.atoms in
-    let list = answers_exist (schema_widths h.mapping.target) (facts e.target) q fits in
-    let certain = listed_are_certain P.apply h.mapping.rules (model_tables h.mapping.target) (facts h.rows) (facts e.target) q list.0 x.1.universal list.1 in
+    let fits = read_queries_fit M.target k.text q k.said k.atoms in
+    let list = answers_exist (schema_widths M.target) (facts e.target) q fits in
+    let certain = listed_are_certain P.apply M.rules (model_tables M.target) (facts h.rows) (facts e.target) q list.0
+    x.1.universal list.1 in
     let a : Answers = record { exchange = e; rows = list.0 } in
-    let asked_for : query_stages.passes c h.mapping (h.mapping, q) = (q, (k.text, (k.held, k.few), (q, k.said, (k.atoms, refl))), refl) in
-    let passed : (answers P).passes c (tt {0}) ((h.mapping, q), a) =
-    (h.mapping, (h.text, (h.held, h.few), h.accepted), ((h.mapping, q), asked_for, (((h.mapping, q), h.rows), (h.rows, h.source, refl), (((h.mapping, q), e), (e, x.1, refl), (a, (refl, list.1, few list.0 certain), refl))))) in
-    (a, (_, (Answering, ap or_usage w, (((h.mapping, q), a), passed, refl)), refl))
+    let passed : (answers P).passes c (tt {0}) ((M, q), a) = (
+      M,
+      accepted_passes P First c M read.accepted,
+      ((M, q), posed c M k, (((M, q), h.rows), (h.rows, read.source, refl), (((M, q), e), (e, x.1, refl), (a, (refl, list.1, few list.0 certain), refl)))),
+    ) in
+    (a, (_, (Answering, ap or_usage w, (((M, q), a), passed, refl)), refl))
 
 pub answers_clash : NoAnswerIsAClash
 answers_clash P c words w h k =
+    let M = h.mapping in
+    let read = h.matched.read in
     let x = clash_there P Plain c h in
     let q = k.query in
-    let asked_for : query_stages.passes c h.mapping (h.mapping, q) = (q, (k.text, (k.held, k.few), (q, k.said, (k.atoms, refl))), refl) in
-    let refused : (answers P).refuses c (tt {0}) (named_clash h.mapping.target x.0) =
-    inr (h.mapping, (h.text, (h.held, h.few), h.accepted), inr ((h.mapping, q), asked_for, inr (((h.mapping, q), h.rows), (h.rows, h.source, refl), inl (exchange_faults.Clash x.0, x.1, refl)))) in
+    let refused : (answers P).refuses c (tt {0}) (named_clash M.target x.0) =
+    inr (M, accepted_passes P First c M read.accepted, inr ((M, q), posed c M k, inr (((M, q), h.rows), (h.rows, read.source, refl), inl (exchange_faults.Clash x.0, x.1, refl)))) in
     (x.0, _, _, _, inr (Answering, ap or_usage w, refused))
 
 -- if nothing is at fault, there is a plan
@@ -207,8 +217,8 @@ completes P c words r e old new before after writes writes' is right counted rea
   clash = λ mode nested w h.
       let k = no_solution P c words mode nested w h in
       clash_answered r e k.0 k.1 k.2 k.3 is (reason_told P c words e old new before after writes writes' right counted (λ n a. reads) (refusals.Clash k.0 k.1 k.2 k.3) k.4);
-  shown = λ mode w h.
-      let p = shown P c words mode w h in
+  shown = λ mode w M a.
+      let p = shown P c words mode w M a in
       shown_answered r mode (answered P c words r e (Showing mode) is w
       (plan_done P c words e old new before after writes writes' right counted (λ n a. reads) written p.0 p.1));
   answers = λ w h k few.

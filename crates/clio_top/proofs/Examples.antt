@@ -19,7 +19,7 @@ use Rattle.dx_model.specs.declared.rules.Rule.{Rule}
 use Rattle.dx_model.specs.declared.tables.Link.{Link}
 use Rattle.dx_model.specs.declared.values.Value.{Value}
 use Rattle.dx_model.specs.declared.values.Value.TheVariants.{Const}
-use Rattle.dx_model.specs.Rules.{AreRows, IsMatch, IsRows, Satisfies, premise_fact, fact_of_atom as said_fact}
+use Rattle.dx_model.specs.Rules.{IsMatch, IsRows, Satisfies, premise_fact, fact_of_atom as said_fact}
 use Rattle.dx_model.specs.Solutions.{IsSolution}
 use Rattle.dx_model.specs.Tables.{Determination, FactFits, RowsObey, table_of}
 use Rattle.dx_model.specs.Values.{Conversions, Rows, RowsAscend, Tuple, row_cmp, tuple_cmp}
@@ -43,7 +43,6 @@ use Rattle.dx_schema_text.specs.Spelling.{SpellsHead, SpellsLine, SpellsMapping,
 use Rattle.dx_schema_text.specs.Spelling as spelling
 use Rattle.dx_schema_text.specs.Texts.{IsMappingText, deepest}
 use Rattle.dx_csv.specs.Table.{AreTableRecords, IsWholeRecord, table_records}
-use Rattle.dx_tgd.specs.Counting.{canonical_cells}
 use Rattle.dx_exchange.specs.declared.mode.Mode.TheVariants.{Core, Plain}
 use Rattle.dx_exchange.specs.declared.result.Exchange.{Exchange}
 use Rattle.dx_stages.specs.Worlds.{World}
@@ -52,7 +51,8 @@ use Rattle.clio_accept.specs.Accepting.{accepting, between_of, taking}
 use Rattle.clio_accept.specs.Mapping.{AreRulesOf, NoneReserved}
 use Rattle.clio_source.specs.Source.{ReadState, SaysSourceFacts, at_start, data_bytes, flat, reading, source_cells, source_stages}
 use Rattle.clio_ending.specs.declared.ending.Done.TheVariants.{Exchanged}
-use Rattle.clio_steps.specs.Outcomes.{HasSolutionIn}
+use Rattle.clio_steps.specs.declared.texts.Side.TheVariants.{First}
+use Rattle.clio_steps.specs.Outcomes.{AcceptedIn, HasSolutionIn}
 use Rattle.clio_top.specs.Completing.{HasPlanFor, small_world}
 use Rattle.clio_steps.specs.Steps.{Program, target_cells, wanted}
 use Rattle.clio_top.proofs.Completing.{planned}
@@ -447,15 +447,6 @@ are_rows convert = record { ascend = ((λ x m. less x m), ((λ x m. elim m [ ]),
     listed : (t : Tuple) (texts : ℕ → Text) → IsMatch convert rule (facts rows) texts → t ≡ texts 0 ∷ [] → t ∈ tuples
     listed t texts m e = put (texts 0) t (named texts (m.premise premise_atom (here refl))) e
 
--- so there are four canonical cells
-few_cells : (convert : Conversions) (matches : Rows) → AreRows convert (rule ∷ []) (facts rows) matches
-    → canonical_cells (rule ∷ []) matches ≤ target_cells
-few_cells convert [] a = absurd a
-few_cells convert (ts ∷ []) a =
-    subst (λ (us : List Tuple). canonical_cells (rule ∷ []) (us ∷ []) ≤ target_cells)
-    (one_rows convert rule (facts rows) tuples ts (are_rows convert) a.0) (omega arith)
-few_cells convert (ts ∷ us ∷ matches) a = absurd a.1
-
 -- ---- a solution
 
 abbrev person : Text → Fact
@@ -503,16 +494,20 @@ solves convert = record {
 
 -- ---- the exchange
 
+pub is_accepted : (P : Program) → AcceptedIn P First world mapping
+is_accepted P = record { text = text; held = record { is = has_text; few = omega arith }; accepted = accepted P }
+
+-- there are four canonical cells
 pub has_solution : (P : Program) → HasSolutionIn P world
 has_solution P = record {
-  text = text;
-  held = has_text;
-  few = omega arith;
   mapping = mapping;
-  accepted = accepted P;
   rows = rows;
-  source = is_source P;
-  within = few_cells P.apply;
+  matches = tuples ∷ [];
+  matched = record {
+    read = record { accepted = is_accepted P; source = is_source P };
+    are = (are_rows P.apply, tt);
+    within = omega arith;
+  };
   solution = solution;
   solves = solves P.apply;
 }

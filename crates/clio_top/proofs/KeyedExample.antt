@@ -21,7 +21,7 @@ use Rattle.dx_model.specs.declared.values.Value.{Value}
 use Rattle.dx_model.specs.declared.values.Value.TheVariants.{Const, Null}
 use Rattle.dx_model.specs.Chase.{ForcedEqual, IsForcedMap, IsForcedValue}
 use Rattle.dx_model.specs.Instances.{IsHomomorphism, IsNullMap, given, image, values}
-use Rattle.dx_model.specs.Rules.{AreRows, Satisfies, canonical, fact_of_atom}
+use Rattle.dx_model.specs.Rules.{Satisfies, canonical, fact_of_atom}
 use Rattle.dx_model.specs.Solutions.{IsSolution}
 use Rattle.dx_model.specs.Tables.{Determination, FactFits, IsKeyed, KeysHold, cell, table_of, values_in}
 use Rattle.dx_model.specs.Values.{Conversions, Rows, RowsAscend, null_cmp, row_cmp, value_cmp}
@@ -36,29 +36,25 @@ use Rattle.dx_instance.specs.Stored.{TableRows, facts, rows_of}
 use Rattle.dx_instance.proofs.Placed.{row_total}
 use Rattle.dx_instance.proofs.StoredFacts.{fact_from_row, row_from_fact}
 use Rattle.dx_csv.specs.Table.{table_records}
-use Rattle.dx_tgd.specs.Counting.{canonical_cells}
 use Rattle.dx_exchange.specs.declared.mode.Mode.{Mode}
 use Rattle.dx_exchange.specs.declared.mode.Mode.TheVariants.{Plain}
 use Rattle.dx_exchange.specs.declared.result.Exchange.{Exchange}
 use Rattle.dx_exchange.specs.Exchanging.{IsExchange}
 use Rattle.clio_accept.specs.declared.mapping.Mapping.{Mapping}
-use Rattle.clio_accept.specs.Accepting.{accepting}
-use Rattle.clio_accept.proofs.Decided.{accepting_one}
-use Rattle.clio_source.specs.Source.{source_stages}
-use Rattle.clio_source.proofs.Decided.{source_one}
 use Rattle.clio_files.specs.Files.{AreFiles, AreTableFiles, files_of, summary_of}
 use Rattle.clio_files.specs.Sheets.{AreTargetNulls, PrintedFile, file_of, fold_sheet, nulls_sheet}
 use Rattle.clio_files.specs.Texts.{texts_told}
 use Rattle.clio_files.proofs.OneList.{table_files_are_one}
-use Rattle.clio_steps.specs.Outcomes.{HasSolutionIn, Writing, wrote_all}
-use Rattle.clio_steps.specs.Steps.{Program, exchange_input, target_cells, wanted}
+use Rattle.clio_steps.specs.Outcomes.{HasSolutionIn, ReadIn, Writing, wrote_all}
+use Rattle.clio_steps.specs.Steps.{MappingAndRows, Program, exchange_input}
+use Rattle.clio_steps.proofs.Spine.{one_read}
 use Rattle.clio_top.specs.KeyedWorlds.{KeyedIsPlanned, KeyedIsWritten, keyed_files, keyed_summary, keyed_text, keyed_world}
-use Rattle.clio_top.specs.Outcomes.{IsDoneIn}
-use Rattle.clio_top.specs.Promises.{IsDone}
+use Rattle.clio_top.specs.Outcomes.{WrittenIn}
+use Rattle.clio_top.specs.Promises.{IsExchanged}
 use Rattle.clio_top.specs.Words.{Word}
 use Rattle.clio_top.proofs.Completing.{planned}
 use Rattle.clio_top.proofs.WrittenExample.{none_nested, plain_alone}
-use Rattle.clio_top.proofs.TwoEmps.{it_ascii, TwoEmps, emps, is_source, matches_are, rows, texts_are, tuples, whole}
+use Rattle.clio_top.proofs.TwoEmps.{it_ascii, TwoEmps, are_rows, emps, is_source, matches_are, rows, texts_are, tuples, whole}
 use Rattle.clio_top.proofs.Examples.{ann_ascii, bob_ascii}
 use Rattle.clio_top.proofs.KeyedRules.{accepted, conclusion, dept_atom, depts, emp_bytes, has_table, has_text, link, mapping, person_atom, rule, schema}
 
@@ -197,21 +193,22 @@ solves convert = record { fits = λ f m. target_fits f m; rules = λ d m. each_r
     each_rule d (here e) = subst (λ (r : Rule). Satisfies convert r (facts emp_rows) wanted_facts) e (satisfied convert)
     each_rule d (there m) = elim m [ ]
 
-few_cells : (convert : Conversions) (found : Rows) → AreRows convert (rule ∷ []) (facts emp_rows) found
-    → canonical_cells (rule ∷ []) found ≤ target_cells
-few_cells convert found a =
-    subst (λ (r : Rows). canonical_cells (rule ∷ []) r ≤ target_cells) (sym (matches_are keyed_world two convert conclusion found refl a)) (omega arith)
+is_read : (P : Program) → ReadIn P keyed_world mapping emp_rows
+is_read P = record {
+  accepted = record { text = keyed_text; held = record { is = has_text; few = omega arith }; accepted = accepted P };
+  source = is_source keyed_world two P;
+}
 
 has_solution : (P : Program) → HasSolutionIn P keyed_world
 has_solution P = record {
-  text = keyed_text;
-  held = has_text;
-  few = omega arith;
   mapping = mapping;
-  accepted = accepted P;
   rows = emp_rows;
-  source = is_source keyed_world two P;
-  within = few_cells P.apply;
+  matches = matches;
+  matched = record {
+    read = is_read P;
+    are = (are_rows keyed_world two P.apply conclusion refl, tt);
+    within = omega arith;
+  };
   solution = wanted_facts;
   solves = solves P.apply;
 }
@@ -471,35 +468,20 @@ module _ (P : Program) (Wrote : Writing) where
       subst (λ (t : Text). Wrote keyed_files t) (ap summary_of is ∙ summary_is)
       (subst (λ (fs : List Entry). Wrote fs (summary_of files)) (ap files_of is ∙ files_are) w)
 
-text_of : (held : List ℕ) → keyed_world (codes "mapping.clio") ≡ Some held → held ≡ keyed_text
-text_of held is = same_Some held keyed_text (sym is ∙ has_text)
+done_in : (P : Program) (e : Exchange) (Wrote : Writing) → WrittenIn P Plain false keyed_world e Wrote
+    → Wrote keyed_files keyed_summary
+done_in P e Wrote d =
+    let is = one_read P keyed_world (d.mapping, d.rows) (mapping, emp_rows) d.exchanged.matched.read (is_read P) in
+    let x = subst (λ (p : MappingAndRows). IsExchange P.apply (exchange_input Plain p) e) is d.exchanged.exchange in
+    let files = subst (λ (p : MappingAndRows). AreFiles p.0.source p.0.target P.list Plain false p.0.rules e d.files) is
+    d.are in
+    written_by P Wrote e x d.files files d.written
 
-mapping_of : (P : Program) (held : List ℕ) (M : Mapping) → keyed_world (codes "mapping.clio") ≡ Some held
-    → (accepting P.list P.tests).passes keyed_world held M → M ≡ mapping
-mapping_of P held M is a =
-    accepting_one P.list P.tests keyed_world keyed_text M mapping
-    (subst (λ (t : List ℕ). (accepting P.list P.tests).passes keyed_world t M) (text_of held is) a) (accepted P)
-
-source_is : (P : Program) (I : List TableRows) → (source_stages P.passes).passes keyed_world (wanted mapping) I → I ≡ emp_rows
-source_is P I s = source_one P.passes keyed_world (wanted mapping) I emp_rows s (is_source keyed_world two P)
-
-done_in : (P : Program) (e : Exchange) (Wrote : Writing) → IsDoneIn P Plain false keyed_world e Wrote → Wrote keyed_files keyed_summary
-done_in P e Wrote d = of d.exchange.mapping (mapping_of P d.exchange.text d.exchange.mapping d.exchange.held d.exchange.accepted) d.exchange.source d.exchange.exchange d.are
-  where
-    of : (M : Mapping) → M ≡ mapping → (source_stages P.passes).passes keyed_world (wanted M) d.exchange.rows
-        → IsExchange P.apply (exchange_input Plain (M, d.exchange.rows)) e → AreFiles M.source M.target P.list Plain false M.rules e d.files
-        → Wrote keyed_files keyed_summary
-    of M is s x a =
-        let same = subst (λ (N : Mapping). (source_stages P.passes).passes keyed_world (wanted N) d.exchange.rows) is s in
-        let exchanged = subst (λ (N : Mapping). IsExchange P.apply (exchange_input Plain (N, d.exchange.rows)) e) is x in
-        let files = subst (λ (N : Mapping). AreFiles N.source N.target P.list Plain false N.rules e d.files) is a in
-        written_by P Wrote e (subst (λ (I : List TableRows). IsExchange P.apply (exchange_input Plain (mapping, I)) e) (source_is P d.exchange.rows same) exchanged) d.files files d.written
-
-written : (P : Program) (e : Exchange) (Wrote : Writing) → IsDone P keyed_world exchange e Wrote → Wrote keyed_files keyed_summary
+written : (P : Program) (e : Exchange) (Wrote : Writing) → IsExchanged P keyed_world exchange e Wrote → Wrote keyed_files keyed_summary
 written P e Wrote (mode, nested, w, d) =
     let plain = plain_alone mode nested w in
-    let of_mode = subst (λ (m : Mode). IsDoneIn P m nested keyed_world e Wrote) (sym plain.0) d in
-    done_in P e Wrote (subst (λ (b : Bool). IsDoneIn P Plain b keyed_world e Wrote) (sym plain.1) of_mode)
+    let of_mode = subst (λ (m : Mode). WrittenIn P m nested keyed_world e Wrote) (sym plain.0) d in
+    done_in P e Wrote (subst (λ (b : Bool). WrittenIn P Plain b keyed_world e Wrote) (sym plain.1) of_mode)
 
 pub keyed_is_written : KeyedIsWritten
 keyed_is_written P e before after d = written P e (wrote_all before after) d

@@ -37,7 +37,9 @@ use Rattle.clio_files.specs.Sheets.{PrintedFile, file_of, fold_sheet, nulls_shee
 use Rattle.clio_ending.specs.declared.ending.Done.{Done}
 use Rattle.clio_steps.specs.Outcomes.{IsNextFile}
 use Rattle.clio_steps.specs.Steps.{Program, exchanges, mapping_stages}
-use Rattle.clio_steps.proofs.InWorld.{in_world, its_mapping}
+use Rattle.clio_steps.specs.declared.texts.Side.TheVariants.{First}
+use Rattle.clio_steps.proofs.InWorld.{in_world}
+use Rattle.clio_steps.proofs.Spine.{fits_in}
 use Rattle.clio_steps.proofs.Words.{word_bytes}
 use Rattle.clio_compare.proofs.Pairs.{made_in}
 use Rattle.clio_steps.proofs.Mappings.{is_small}
@@ -81,13 +83,10 @@ root_data shapes.nested word h = json_data word h
 
 -- ---- what is read
 
-read_fits : (P : Program) (c : World) (M : Mapping) → (mapping_stages P).passes c (tt {0}) M → MappingFits P.list P.tests M
-read_fits P c M (text, held, accepted) = accepted_fits P.list P.tests c text M (is_small text held.1) accepted
-
-exchange_fits : (P : Program) (mode : Mode) (c : World) (q : Mapping × Exchange) (x : (exchanges P mode).passes c (tt {0}) q)
-    → MappingFits P.list P.tests (in_world P mode c q x).mapping
-exchange_fits P mode c q (M, (text, held, accepted), (pair, (I, source, pair_is), (x, exchange, q_is))) =
-    accepted_fits P.list P.tests c text M (is_small text held.1) accepted
+exchange_fits : (P : Program) (mode : Mode) (c : World) (q : Mapping × Exchange) → (exchanges P mode).passes c (tt {0}) q
+    → MappingFits P.list P.tests q.0
+exchange_fits P mode c q x =
+    let exchanged = in_world P mode c q x in fits_in P First c q.0 exchanged.1.matched.read.accepted
 
 member_after : {A : Type 0} (before : List A) (x : A) (after : List A) → x ∈ (before ++ x ∷ after)
 member_after [] x after = here refl
@@ -112,17 +111,17 @@ data_read n h = inr (inr (inr (inl h)))
 
 asked_by : (P : Program) (c : World) (k : Command) (n : List ℕ) → AsksFor P c k n → IsReadName n
 asked_by P c (Exchanging mode nested) n (inl h) = inl h
-asked_by P c (Exchanging mode nested) n (inr (M, m, h)) = data_read n (next_data M.source c n (read_fits P c M m).source_names h)
+asked_by P c (Exchanging mode nested) n (inr (M, m, h)) = data_read n (next_data M.source c n (fits_in P First c M m).source_names h)
 asked_by P c (Showing mode) n h = inl h
 asked_by P c (Demonstrating number mode) n h = absurd h
 asked_by P c Answering n (inl h) = inl h
 asked_by P c Answering n (inr (M, m, inl h)) = inr (inl h)
-asked_by P c Answering n (inr (M, m, inr (q, over, h))) = data_read n (next_data M.source c n (read_fits P c M m).source_names h)
+asked_by P c Answering n (inr (M, m, inr (q, over, h))) = data_read n (next_data M.source c n (fits_in P First c M m).source_names h)
 asked_by P c Judging n (inl h) = inl h
-asked_by P c Judging n (inr (M, m, inl h)) = data_read n (next_data M.source c n (read_fits P c M m).source_names h)
+asked_by P c Judging n (inr (M, m, inl h)) = data_read n (next_data M.source c n (fits_in P First c M m).source_names h)
 asked_by P c Judging n (inr (M, m, inr (p, (q, read, is), h))) =
     let same : M ≡ p.0.0 = sym (ap (λ (r : RowsAndBytes). r.0.0) is) in
-    inr (inr (inr (inr (next_given (wanted_given p) c n (subst (λ (N : Mapping). HaveWordNames N.target) same (read_fits P c M m).target_names) h))))
+    inr (inr (inr (inr (next_given (wanted_given p) c n (subst (λ (N : Mapping). HaveWordNames N.target) same (fits_in P First c M m).target_names) h))))
 asked_by P c Comparing n (inl h) = inl h
 asked_by P c Comparing n (inr (M, m, h)) = inr (inr (inl h))
 
@@ -244,7 +243,7 @@ PutsNamed plan = Each plan.files (λ (f : Entry). IsPutName f.0)
 
 put_by : (P : Program) (c : World) (k : Command) (p : PlanContent Done) → (stages_of P k).passes c (tt {0}) p → PutsNamed p
 put_by P c (Exchanging mode nested) p (q, x, (files, are, plan)) =
-    let fits = subst (MappingFits P.list P.tests) (sym (its_mapping P mode c q x)) (exchange_fits P mode c q x) in
+    let fits = exchange_fits P mode c q x in
     subst PutsNamed (sym plan) (put_names files (exchange_put P mode nested q.0 q.1 files fits are))
 put_by P c (Showing mode) p (M, m, plan) = subst PutsNamed (sym plan) none_put
 put_by P c (Demonstrating number mode) p (q, x, (ns, are, plan)) = subst PutsNamed (sym plan) none_put

@@ -44,10 +44,6 @@ use Rattle.dx_ports.specs.States.{OutputState}
 use Rattle.dx_stages.specs.Ending.{WroteFirst}
 use Rattle.dx_stages.specs.Worlds.{World}
 use Rattle.clio_accept.specs.declared.mapping.Mapping.{Mapping}
-use Rattle.clio_accept.specs.Accepting.{accepting}
-use Rattle.clio_accept.proofs.Decided.{accepting_one}
-use Rattle.clio_source.specs.Source.{source_stages}
-use Rattle.clio_source.proofs.Decided.{source_one}
 use Rattle.clio_files.specs.Files.{AreFiles, AreTableFiles, contents_of, files_of, summary_of}
 use Rattle.clio_files.specs.Nested.{AreRootFiles}
 use Rattle.clio_files.specs.Sheets.{AreTargetNulls, PrintedFile, file_of, fold_sheet, nulls_sheet}
@@ -61,20 +57,22 @@ use Rattle.clio_ending.specs.declared.ending.Ending.TheVariants as endings
 use Rattle.clio_ending.specs.declared.ending.Refusal.TheVariants.{Usage}
 use Rattle.clio_ending.specs.Ending.{refusal_ending, status_of}
 use Rattle.clio_answer.specs.Outcomes.{HasFewAnswers, HasQueryIn}
-use Rattle.clio_steps.specs.Steps.{Program, exchange_input, wanted}
-use Rattle.clio_steps.specs.Outcomes.{HasNoSolutionIn, HasSolutionIn, IsClashIn, Writing, wrote_all, wrote_first}
+use Rattle.clio_steps.specs.declared.texts.Side.TheVariants.{First}
+use Rattle.clio_steps.specs.Steps.{MappingAndRows, Program, exchange_input}
+use Rattle.clio_steps.specs.Outcomes.{HasNoSolutionIn, HasSolutionIn, IsClashIn, ReadIn, Writing, wrote_all, wrote_first}
+use Rattle.clio_steps.proofs.Spine.{once_in, one_read}
 use Rattle.clio_top.specs.declared.command.Command.{Command}
 use Rattle.clio_top.specs.declared.command.Command.TheVariants.{Answering, Comparing, Demonstrating, Exchanging, Judging, Showing}
 use Rattle.clio_top.specs.Completing.{Completes, CompletesDemo, HasDone, HasNoFault, HasPlanFor}
 use Rattle.clio_top.specs.Commands.{run_stages}
 use Rattle.clio_top.specs.Demo.{demo_text, demo_world}
 use Rattle.clio_top.specs.Leaving.{Leaves}
-use Rattle.clio_top.specs.Outcomes.{IsDemoIn, IsDoneIn, IsShownIn}
-use Rattle.clio_top.specs.Promises.{AsAsked, IsAnswered, IsClashOf, IsCompared, IsDemo, IsDone, IsJudged, IsShown}
+use Rattle.clio_top.specs.Outcomes.{IsDemoIn, IsShownIn, WrittenIn}
+use Rattle.clio_top.specs.Promises.{AsAsked, IsAnswered, IsClashOf, IsCompared, IsDemo, IsExchanged, IsJudged, IsShown}
 use Rattle.clio_top.specs.SmallWorld.{SmallIsWritten, small_files, small_summary}
 use Rattle.clio_top.specs.Words.{Word, says}
 use Rattle.clio_top.proofs.Asked.{plan_asked}
-use Rattle.clio_top.proofs.Examples.{accepted, are_rows, emps, has_solution, has_text, is_source, mapping, person_determinations, persons, rows, rule, solution, solves, text, tuples, world}
+use Rattle.clio_top.proofs.Examples.{are_rows, emps, has_solution, is_accepted, is_source, mapping, person_determinations, persons, rows, rule, solution, solves, text, tuples, world}
 
 abbrev exchange : List Word
 exchange = codes "exchange" ∷ []
@@ -296,15 +294,9 @@ module _ (P : Program) (Wrote : Writing) where
 
 -- ---- of the words, the text and the rows
 
-text_of : (held : List ℕ) → world (codes "mapping.clio") ≡ Some held → held ≡ text
-text_of held is = same_Some held text (sym is ∙ has_text)
-
-mapping_of : (P : Program) (held : List ℕ) (M : Mapping) → world (codes "mapping.clio") ≡ Some held → (accepting P.list P.tests).passes world held M → M ≡ mapping
-mapping_of P held M is a =
-    accepting_one P.list P.tests world text M mapping (subst (λ (t : List ℕ). (accepting P.list P.tests).passes world t M) (text_of held is) a) (accepted P)
-
-rows_are : (P : Program) (I : List TableRows) → (source_stages P.passes).passes world (wanted mapping) I → I ≡ rows
-rows_are P I s = source_one P.passes world (wanted mapping) I rows s (is_source P)
+-- what is accepted and read
+is_read : (P : Program) → ReadIn P world mapping rows
+is_read P = record { accepted = is_accepted P; source = is_source P }
 
 mode_in : Command → Mode
 mode_in (Exchanging mode nested) = mode
@@ -321,23 +313,20 @@ unfolding mode_in nested_in
 plain_alone mode nested w =
     let c : Exchanging Plain false ≡ Exchanging mode nested = same_Some (Exchanging Plain false) (Exchanging mode nested) w in (ap mode_in c, ap nested_in c)
 
-done_in : (P : Program) (e : Exchange) (Wrote : Writing) → IsDoneIn P Plain false world e Wrote → Wrote small_files small_summary
-done_in P e Wrote d = of d.exchange.mapping (mapping_of P d.exchange.text d.exchange.mapping d.exchange.held d.exchange.accepted) d.exchange.source d.exchange.exchange d.are
-  where
-    of : (M : Mapping) → M ≡ mapping → (source_stages P.passes).passes world (wanted M) d.exchange.rows
-        → IsExchange P.apply (exchange_input Plain (M, d.exchange.rows)) e → AreFiles M.source M.target P.list Plain false M.rules e d.files
-        → Wrote small_files small_summary
-    of M is s x a =
-        let same = subst (λ (N : Mapping). (source_stages P.passes).passes world (wanted N) d.exchange.rows) is s in
-        let exchanged = subst (λ (N : Mapping). IsExchange P.apply (exchange_input Plain (N, d.exchange.rows)) e) is x in
-        let files = subst (λ (N : Mapping). AreFiles N.source N.target P.list Plain false N.rules e d.files) is a in
-        written_by P Wrote e (subst (λ (I : List TableRows). IsExchange P.apply (exchange_input Plain (mapping, I)) e) (rows_are P d.exchange.rows same) exchanged) d.files files d.written
+done_in : (P : Program) (e : Exchange) (Wrote : Writing) → WrittenIn P Plain false world e Wrote
+    → Wrote small_files small_summary
+done_in P e Wrote d =
+    let is = one_read P world (d.mapping, d.rows) (mapping, rows) d.exchanged.matched.read (is_read P) in
+    let x = subst (λ (p : MappingAndRows). IsExchange P.apply (exchange_input Plain p) e) is d.exchanged.exchange in
+    let files = subst (λ (p : MappingAndRows). AreFiles p.0.source p.0.target P.list Plain false p.0.rules e d.files) is
+    d.are in
+    written_by P Wrote e x d.files files d.written
 
-pub written : (P : Program) (e : Exchange) (Wrote : Writing) → IsDone P world exchange e Wrote → Wrote small_files small_summary
+pub written : (P : Program) (e : Exchange) (Wrote : Writing) → IsExchanged P world exchange e Wrote → Wrote small_files small_summary
 written P e Wrote (mode, nested, w, d) =
     let plain = plain_alone mode nested w in
-    let of_mode = subst (λ (m : Mode). IsDoneIn P m nested world e Wrote) (sym plain.0) d in
-    done_in P e Wrote (subst (λ (b : Bool). IsDoneIn P Plain b world e Wrote) (sym plain.1) of_mode)
+    let of_mode = subst (λ (m : Mode). WrittenIn P m nested world e Wrote) (sym plain.0) d in
+    done_in P e Wrote (subst (λ (b : Bool). WrittenIn P Plain b world e Wrote) (sym plain.1) of_mode)
 
 pub small_is_written : SmallIsWritten
 small_is_written P e before after d = written P e (wrote_all before after) d
@@ -359,22 +348,21 @@ unfolding mode_in
 shown P Wrote (mode, w, d) =
     let c : Showing Plain ≡ Showing mode = same_Some (Showing Plain) (Showing mode) w in
     let plain = subst (λ (m : Mode). IsShownIn P m world Wrote) (sym (ap mode_in c)) d in
-    let is = mapping_of P plain.text plain.mapping plain.held plain.accepted in
+    let is = (once_in P world).mapping First plain.mapping mapping plain.accepted (is_accepted P) in
     subst (λ (t : Text). Wrote [] t) (texts_are P)
     (subst (λ (M : Mapping). Wrote [] (contents_of (texts_told M.source M.target P.list Plain M.rules))) is plain.written)
 
 -- ---- what isn't so
 
 -- there is no clash
-no_clash_in : (P : Program) (mode : Mode) (k : Clash) (table : Text) (key : List Text) (column : Text) → ¬ (IsClashIn P mode world k table key column)
-no_clash_in P mode k table key column h = of h.mapping (mapping_of P h.text h.mapping h.held h.accepted) h.source h.clash.no_solution
-  where
-    of : (M : Mapping) → M ≡ mapping → (source_stages P.passes).passes world (wanted M) h.rows
-        → ((K : List Fact) → ¬ (IsSolution P.apply M.rules (model_tables M.target) (facts h.rows) K)) → ⊥
-    of M is s none =
-        let same = subst (λ (N : Mapping). (source_stages P.passes).passes world (wanted N) h.rows) is s in
-        let not_one = subst (λ (N : Mapping). ¬ (IsSolution P.apply N.rules (model_tables N.target) (facts h.rows) solution)) is (none solution) in
-        subst (λ (I : List TableRows). ¬ (IsSolution P.apply (rule ∷ []) (model_tables persons) (facts I) solution)) (rows_are P h.rows same) not_one (solves P.apply)
+no_clash_in : (P : Program) (mode : Mode) (k : Clash) (table : Text) (key : List Text) (column : Text)
+    → ¬ (IsClashIn P mode world k table key column)
+no_clash_in P mode k table key column h =
+    let is = one_read P world (h.mapping, h.rows) (mapping, rows) h.matched.read (is_read P) in
+    let none = subst
+    (λ (p : MappingAndRows). ¬ (IsSolution P.apply p.0.rules (model_tables p.0.target) (facts p.1) solution)) is
+    (h.clash.no_solution solution) in
+    none (solves P.apply)
 
 pub no_clash : (P : Program) (k : Clash) (table : Text) (key : List Text) (column : Text) → ¬ (IsClashOf P world exchange k table key column)
 no_clash P k table key column (inl (mode, nested, w, h)) = no_clash_in P mode k table key column h
@@ -438,7 +426,7 @@ three_or_memory P c r h none = elim (h.clash Plain false refl none) [ inl x ↦ 
 
 -- and of the other words
 shown_or_memory : (P : Program) (r : Ending) → Completes P world (codes "show" ∷ []) r → (status_of r ≡ 0) ⊎ (status_of r ≡ 9)
-shown_or_memory P r h = elim (h.shown Plain refl (record { text = text; held = has_text; few = omega arith; mapping = mapping; accepted = accepted P })) [ inl x ↦ inl (ap status_of x) | inr m ↦ inr (ap status_of m) ]
+shown_or_memory P r h = elim (h.shown Plain refl mapping (is_accepted P)) [ inl x ↦ inl (ap status_of x) | inr m ↦ inr (ap status_of m) ]
 
 done_or_memory : (P : Program) (c : World) (words : List Word) (k : Command) (r : Ending) → Completes P c words r → says words ≡ Some k → HasNoFault P c words → (status_of r ≡ 0) ⊎ (status_of r ≡ 9)
 done_or_memory P c words k r h w none = elim (h.done k w none) [ inl x ↦ inl (ap status_of x.2) | inr m ↦ inr (ap status_of m) ]
@@ -469,11 +457,9 @@ demo_three_or_memory P r h none = elim (h.clash 5 Plain refl none) [ inl x ↦ i
 one_demo_text : (P : Program) (number : ℕ) (mode : Mode) (e : Exchange) (t u : Text)
     → IsDemoIn P number mode e (λ files said. said ≡ t) → IsDemoIn P number mode e (λ files said. said ≡ u) → t ≡ u
 one_demo_text P number mode e t u p q =
-    let x = p.exchange in let y = q.exchange in
-    let held = same_Some x.text y.text (sym x.held ∙ y.held) in
-    let of_one = subst (λ (k : List ℕ). (accepting P.list P.tests).passes (demo_world number) k x.mapping) held x.accepted in
-    let M = accepting_one P.list P.tests (demo_world number) y.text x.mapping y.mapping of_one y.accepted in
+    let M = (once_in P (demo_world number)).mapping First p.mapping q.mapping p.exchanged.matched.read.accepted
+    q.exchanged.matched.read.accepted in
     let a = p.nulls_are in let b = q.nulls_are in
     let ns = one_ascending null_cmp null_total p.nulls q.nulls a.ascend b.ascend (λ n m. (b.exact n).1 ((a.exact n).0 m)) (λ n m. (a.exact n).1 ((b.exact n).0 m)) in
     sym p.written ∙ ap (λ (N : Mapping). demo_text number N e.target (length p.nulls)) M
-    ∙ ap (λ (ks : List NullId). demo_text number y.mapping e.target (length ks)) ns ∙ q.written
+    ∙ ap (λ (ks : List NullId). demo_text number q.mapping e.target (length ks)) ns ∙ q.written

@@ -9,7 +9,8 @@ use Rattle.clio_answer.specs.Answering.{answer_stages}
 use Rattle.clio_judge.specs.Judging.{judge_stages}
 use Rattle.clio_compare.specs.Comparing.{compare_stages}
 use Rattle.clio_top.specs.declared.command.Command.{Command}
-use Rattle.clio_top.specs.declared.command.Command.TheVariants.{Answering, Comparing, Demonstrating, Exchanging, Judging, Showing}
+use Rattle.clio_top.specs.declared.command.Command.TheVariants.{Answering, Comparing, Demonstrating}
+use Rattle.clio_top.specs.declared.command.Command.TheVariants.{Exchanging, Judging, Showing}
 use Rattle.clio_top.specs.Words.{Word, or_usage, says}
 use Rattle.clio_top.specs.Running.{exchange_stages, show_stages}
 use Rattle.clio_top.specs.Demo.{IsDemoNumber, demo_stages}

@@ -35,7 +35,8 @@ NullsHaveTexts M e = (n : NullId) → Null n ∈ values (facts e.target) → Has
 -- exactly the files of the exchange, by names and bytes
 abbrev pub AreFilesOf : List Conversion → Mode → Bool → Mapping → Exchange → List Entry → Type 0
 AreFilesOf list mode nested M e entries =
-    (files : List PrintedFile) × AreFiles M.source M.target list mode nested M.rules e files × (entries ≡ files_of files)
+    (files : List PrintedFile) × AreFiles M.source M.target list mode nested M.rules e files
+    × (entries ≡ files_of files)
 
 -- what the call takes
 pub record CanBeWritten (list : List Conversion) (M : Mapping) (e : Exchange) : Type 0 where

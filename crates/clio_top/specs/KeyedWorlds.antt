@@ -1,5 +1,5 @@
--- Two small worlds with a key. In one, employees of one department get one number for it, which is not known; in the other, a person
--- would have two departments.
+-- Two small worlds with a key. In one, employees of one department get one number for it, which is not known; in the
+-- other, a person would have two departments.
 use Rattle.std.specs.Prelude.{◌≡◌, List, [], ◌∷◌, ◌++◌, codes}
 use Rattle.std.specs.FinMap.{from_entries, get}
 use Rattle.dx_base.specs.Entries.{Entry, FileMap}
@@ -17,7 +17,7 @@ use Rattle.clio_steps.specs.Outcomes.{wrote_all}
 use Rattle.clio_steps.specs.Steps.{Program}
 use Rattle.clio_top.specs.Commands.{run_stages}
 use Rattle.clio_top.specs.Completing.{HasPlanFor}
-use Rattle.clio_top.specs.Promises.{IsClashOf, IsDone}
+use Rattle.clio_top.specs.Promises.{IsClashOf, IsExchanged}
 use Rattle.clio_top.specs.Words.{Word}
 
 -- ---- one department of two employees
@@ -38,7 +38,8 @@ keyed_held = from_entries keyed_entries
 abbrev pub keyed_world : World
 keyed_world n = get keyed_held n
 
--- the rule, its script, one department, its two persons, what the number stands for, and the fold: the second number becomes the first
+-- the rule, its script, one department, its two persons, what the number stands for, and the fold:
+-- the second number becomes the first
 abbrev pub keyed_files : List Entry
 keyed_files =
     (codes "rules.txt", codes "rule emp(x0, x1) -> person(x0, y0), dept(y0, x1);\n")
@@ -46,7 +47,8 @@ keyed_files =
       codes "script.sql",
       codes "CREATE TABLE target.\"dept\" (\"id\" TEXT, \"name\" TEXT);\n"
           ++ (codes "CREATE TABLE target.\"person\" (\"name\" TEXT, \"dept\" TEXT);\n"
-          ++ (codes "CREATE TABLE m0 AS SELECT DISTINCT a0.\"name\" AS c0, a0.\"dept\" AS c1 FROM source.\"emp\" AS a0;\n"
+          ++ (codes
+          "CREATE TABLE m0 AS SELECT DISTINCT a0.\"name\" AS c0, a0.\"dept\" AS c1 FROM source.\"emp\" AS a0;\n"
           ++ (codes "INSERT INTO target.\"person\" SELECT m.c0, SKOLEM(0, 0, m.place) FROM m0 AS m;\n"
           ++ codes "INSERT INTO target.\"dept\" SELECT SKOLEM(0, 0, m.place), m.c1 FROM m0 AS m;\n"))),
     )
@@ -67,7 +69,8 @@ KeyedIsPlanned = (P : Program) → (e : Exchange) × HasPlanFor P keyed_world (c
 abbrev pub KeyedIsWritten : Type 0
 KeyedIsWritten =
     (P : Program) (e : Exchange) (before after : OutputState)
-    → IsDone P keyed_world (codes "exchange" ∷ []) e (wrote_all before after) → WroteAll keyed_files keyed_summary before after
+    → IsExchanged P keyed_world (codes "exchange" ∷ []) e (wrote_all before after)
+    → WroteAll keyed_files keyed_summary before after
 
 -- ---- two departments of one employee
 
@@ -105,5 +108,6 @@ ClashIsRefused =
 
 abbrev pub ClashIsThis : Type 0
 ClashIsThis =
-    (P : Program) (words : List Word) → words ∈ exchange_words → (k : Clash) (table : Text) (key : List Text) (column : Text)
+    (P : Program) (words : List Word) → words ∈ exchange_words
+    → (k : Clash) (table : Text) (key : List Text) (column : Text)
     → IsClashOf P clashing_world words k table key column → IsSmallClash k table key column

@@ -21,7 +21,8 @@ IsGivenName n = (word : List ℕ) × IsWord word × (n ≡ codes "given/" ++ (wo
 -- what may be read: the two mapping texts, the query, files of data, and given ones
 abbrev pub IsReadName : List ℕ → Type 0
 IsReadName n =
-    (n ≡ codes "mapping.clio") ⊎ ((n ≡ codes "query.clio") ⊎ ((n ≡ codes "other.clio") ⊎ (IsDataName n ⊎ IsGivenName n)))
+    (n ≡ codes "mapping.clio") ⊎ ((n ≡ codes "query.clio")
+    ⊎ ((n ≡ codes "other.clio") ⊎ (IsDataName n ⊎ IsGivenName n)))
 
 -- what may be put: the rules, their script, and files of data
 abbrev pub IsPutName : List ℕ → Type 0

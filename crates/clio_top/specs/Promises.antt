@@ -29,19 +29,21 @@ use Rattle.clio_ending.specs.declared.ending.Done.TheVariants.{Answered, Compare
 use Rattle.clio_ending.specs.declared.ending.Refusal.TheVariants as refusals
 use Rattle.clio_ending.specs.Ending.{AreAlike, exchange_refusal, query_refusal}
 use Rattle.clio_steps.specs.declared.texts.Side.{Side}
-use Rattle.clio_steps.specs.Steps.{Program, mapping_stages, side_refusal}
-use Rattle.clio_steps.specs.Outcomes.{IsClashIn, IsNextFile, Writing, wrote_all, HasNoSolutionIn}
+use Rattle.clio_steps.specs.declared.texts.Side.TheVariants.{First}
+use Rattle.clio_steps.specs.Steps.{Program, side_refusal}
+use Rattle.clio_steps.specs.Outcomes.{AcceptedIn, HasNoSolutionIn, IsClashIn, IsNextFile, Writing, wrote_all}
 use Rattle.clio_answer.specs.Answering.{query_in_text, query_over, query_name}
 use Rattle.clio_answer.specs.Outcomes.{IsAnsweredIn}
 use Rattle.clio_judge.specs.Judging.{RowsAndBytes, judge_refusal, rows_and_bytes, wanted_given}
 use Rattle.clio_judge.specs.Outcomes.{IsJudgedIn, IsNextGiven}
 use Rattle.clio_compare.specs.Outcomes.{IsComparedIn}
 use Rattle.clio_top.specs.declared.command.Command.{Command}
-use Rattle.clio_top.specs.declared.command.Command.TheVariants.{Answering, Comparing, Demonstrating, Exchanging, Judging, Showing}
+use Rattle.clio_top.specs.declared.command.Command.TheVariants.{Answering, Comparing, Demonstrating}
+use Rattle.clio_top.specs.declared.command.Command.TheVariants.{Exchanging, Judging, Showing}
 use Rattle.clio_top.specs.Words.{Word, says}
 use Rattle.clio_top.specs.Demo.{demo_world}
 use Rattle.clio_top.specs.Commands.{run_stages}
-use Rattle.clio_top.specs.Outcomes.{IsDemoIn, IsDoneIn, IsShownIn}
+use Rattle.clio_top.specs.Outcomes.{IsDemoIn, IsShownIn, WrittenIn}
 
 -- there is one reason to refuse a run, up to which clash is told, or a plan, and never both
 abbrev pub RefusedOrPlanned : Type 0
@@ -49,10 +51,10 @@ RefusedOrPlanned = (P : Program) → IsDecided AreAlike (λ words. Unit {0}) (ru
 
 -- ---- what is done
 
--- an exchange that is done, as the words ask for it
-abbrev pub IsDone : Program → World → List Word → Exchange → Writing → Type 0
-IsDone P c words e Wrote =
-    (mode : Mode) × (nested : Bool) × (says words ≡ Some (Exchanging mode nested)) × IsDoneIn P mode nested c e Wrote
+-- an exchange, as the words ask for it
+abbrev pub IsExchanged : Program → World → List Word → Exchange → Writing → Type 0
+IsExchanged P c words e Wrote =
+    (mode : Mode) × (nested : Bool) × (says words ≡ Some (Exchanging mode nested)) × WrittenIn P mode nested c e Wrote
 
 -- a mapping that is shown
 abbrev pub IsShown : Program → World → List Word → Writing → Type 0
@@ -77,7 +79,7 @@ IsCompared P c words k Wrote = (says words ≡ Some Comparing) × IsComparedIn P
 
 -- the words ask for this, over the texts and files of a world, and its files and its text were written so
 abbrev pub AsAsked : Program → World → List Word → Done → Writing → Type 0
-AsAsked P c words (Exchanged e) Wrote = IsDone P c words e Wrote
+AsAsked P c words (Exchanged e) Wrote = IsExchanged P c words e Wrote
 AsAsked P c words Shown Wrote = IsShown P c words Wrote
 AsAsked P c words (Demo e) Wrote = IsDemo P words e Wrote
 AsAsked P c words (Answered a) Wrote = IsAnswered P c words a Wrote
@@ -95,7 +97,8 @@ DoneIsAsAsked =
 -- the clash that the words ask for: of the files outside, or of those of a demo
 abbrev pub IsClashOf : Program → World → List Word → Clash → Text → List Text → Text → Type 0
 IsClashOf P c words k table key column =
-    ((mode : Mode) × (nested : Bool) × (says words ≡ Some (Exchanging mode nested)) × IsClashIn P mode c k table key column)
+    ((mode : Mode) × (nested : Bool) × (says words ≡ Some (Exchanging mode nested))
+    × IsClashIn P mode c k table key column)
     ⊎ (((number : ℕ) × (mode : Mode) × (says words ≡ Some (Demonstrating number mode))
     × IsClashIn P mode (demo_world number) k table key column)
     ⊎ ((says words ≡ Some Answering) × IsClashIn P Plain c k table key column))
@@ -104,13 +107,16 @@ IsClashOf P c words k table key column =
 -- the words say, whether or not the inputs tell what they hold
 abbrev pub ClashesAreOfTexts : Type 0
 ClashesAreOfTexts =
-    (P : Program) (c : World) (words : List Word) (before after : OutputState) (k : Clash) (table : Text) (key : List Text) (column : Text)
-    → Ends (run_stages P) c words before after (endeds.Refused (refusals.Clash k table key column)) → IsClashOf P c words k table key column
+    (P : Program) (c : World) (words : List Word) (before after : OutputState) (k : Clash)
+    (table : Text) (key : List Text) (column : Text)
+    → Ends (run_stages P) c words before after (endeds.Refused (refusals.Clash k table key column))
+    → IsClashOf P c words k table key column
 
 -- if there is no solution, an exchange is refused with a clash
 abbrev pub NoSolutionIsAClash : Type 0
 NoSolutionIsAClash =
-    (P : Program) (c : World) (words : List Word) (mode : Mode) (nested : Bool) → says words ≡ Some (Exchanging mode nested)
+    (P : Program) (c : World) (words : List Word) (mode : Mode) (nested : Bool)
+    → says words ≡ Some (Exchanging mode nested)
     → HasNoSolutionIn P c
     → (k : Clash) × (table : List ℕ) × (key : List (List ℕ)) × (column : List ℕ)
     × (run_stages P).refuses c words (refusals.Clash k table key column)
@@ -124,19 +130,20 @@ NoSolutionIsAClash =
 -- then, if it is accepted, the other one.
 abbrev pub AsksFor : Program → World → Command → List ℕ → Type 0
 AsksFor P c (Exchanging mode nested) n =
-    (n ≡ codes "mapping.clio") ⊎ ((M : Mapping) × (mapping_stages P).passes c (tt {0}) M × IsNextFile c M.source n)
+    (n ≡ codes "mapping.clio") ⊎ ((M : Mapping) × AcceptedIn P First c M × IsNextFile c M.source n)
 AsksFor P c (Showing mode) n = n ≡ codes "mapping.clio"
 AsksFor P c (Demonstrating number mode) n = ⊥
 AsksFor P c Answering n =
     (n ≡ codes "mapping.clio")
-    ⊎ ((M : Mapping) × (mapping_stages P).passes c (tt {0}) M
+    ⊎ ((M : Mapping) × AcceptedIn P First c M
     × ((n ≡ query_name) ⊎ ((q : Query) × (query_over M).passes c M q × IsNextFile c M.source n)))
 AsksFor P c Judging n =
     (n ≡ codes "mapping.clio")
-    ⊎ ((M : Mapping) × (mapping_stages P).passes c (tt {0}) M
-    × (IsNextFile c M.source n ⊎ ((p : RowsAndBytes) × (rows_and_bytes P).passes c M p × IsNextGiven c (wanted_given p) n)))
+    ⊎ ((M : Mapping) × AcceptedIn P First c M
+    × (IsNextFile c M.source n ⊎ ((p : RowsAndBytes) × (rows_and_bytes P).passes c M p
+    × IsNextGiven c (wanted_given p) n)))
 AsksFor P c Comparing n =
-    (n ≡ codes "mapping.clio") ⊎ ((M : Mapping) × (mapping_stages P).passes c (tt {0}) M × (n ≡ codes "other.clio"))
+    (n ≡ codes "mapping.clio") ⊎ ((M : Mapping) × AcceptedIn P First c M × (n ≡ codes "other.clio"))
 
 -- a run asks for exactly the files of the command that its words say
 abbrev pub AskedInOrder : Type 0
@@ -148,13 +155,16 @@ AskedInOrder =
 
 -- a run is refused with `Usage` exactly if its words say no command
 abbrev pub UsageIsOfWords : Type 0
-UsageIsOfWords = (P : Program) (c : World) (words : List Word) → (run_stages P).refuses c words refusals.Usage ↔ (says words ≡ None)
+UsageIsOfWords =
+    (P : Program) (c : World) (words : List Word)
+    → (run_stages P).refuses c words refusals.Usage ↔ (says words ≡ None)
 
 -- want of memory is no reason to refuse a text, nor an exchange
 abbrev pub MemoryIsNoReason : Type 0
 MemoryIsNoReason =
     (P : Program) (c : World) (text : List ℕ) (a : ExchangeInput)
-    → (¬ ((accepting P.list P.tests).refuses c text accept_faults.Memory)) × (¬ ((exchanging P.apply).refuses c a exchange_faults.Memory))
+    → (¬ ((accepting P.list P.tests).refuses c text accept_faults.Memory))
+    × (¬ ((exchanging P.apply).refuses c a exchange_faults.Memory))
 
 -- what a mapping text, a query's text, an exchange or a verdict is refused for has its word among the refusals of a run
 abbrev pub ReasonsHaveWords : Type 0
@@ -169,4 +179,4 @@ ReasonsHaveWords =
 abbrev pub FilesHaveOwnNames : Type 0
 FilesHaveOwnNames =
     (P : Program) (mode : Mode) (nested : Bool) (c : World) (e : Exchange) (before after : OutputState)
-    → (d : IsDoneIn P mode nested c e (wrote_all before after)) → Distinct (map (λ (f : PrintedFile). f.name) d.files)
+    → (d : WrittenIn P mode nested c e (wrote_all before after)) → Distinct (map (λ (f : PrintedFile). f.name) d.files)

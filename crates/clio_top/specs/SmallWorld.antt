@@ -8,9 +8,10 @@ use Rattle.dx_stages.specs.Ending.{WroteAll}
 use Rattle.clio_steps.specs.Outcomes.{wrote_all}
 use Rattle.clio_steps.specs.Steps.{Program}
 use Rattle.clio_top.specs.Completing.{small_world}
-use Rattle.clio_top.specs.Promises.{IsDone}
+use Rattle.clio_top.specs.Promises.{IsExchanged}
 
--- the rule, its script, two persons whose telephones are not known, what the two nulls stand for, and a fold that lists none
+-- the rule, its script, two persons whose telephones are not known, what the two nulls stand for,
+-- and a fold that lists none
 abbrev pub small_files : List Entry
 small_files =
     (codes "rules.txt", codes "rule emp(x0) -> person(x0, y0);\n")
@@ -33,4 +34,5 @@ small_summary = codes "rules.txt 1\nscript.sql 3\nperson.csv 2\nnulls.csv 2\nfol
 abbrev pub SmallIsWritten : Type 0
 SmallIsWritten =
     (P : Program) (e : Exchange) (before after : OutputState)
-    → IsDone P small_world (codes "exchange" ∷ []) e (wrote_all before after) → WroteAll small_files small_summary before after
+    → IsExchanged P small_world (codes "exchange" ∷ []) e (wrote_all before after)
+    → WroteAll small_files small_summary before after

@@ -1,5 +1,6 @@
 -- Which command the words of a run say.
-use Rattle.std.specs.Prelude.{ℕ, ◌*◌, ◌+◌, ◌-◌, List, [], ◌∷◌, Option, Some, None, Result, Ok, Err, Bool, true, false, eqb, nat_eq, nat_lt, ◌&&◌, ◌||◌, codes, if◌then◌else◌}
+use Rattle.std.specs.Prelude.{ℕ, ◌*◌, ◌+◌, ◌-◌, List, [], ◌∷◌, Option, Some, None, Result, Ok, Err, Bool}
+use Rattle.std.specs.Prelude.{true, false, eqb, nat_eq, nat_lt, ◌&&◌, ◌||◌, codes, if◌then◌else◌}
 use Rattle.std.specs.Cmp.Lexicographic.{pointwise}
 use Rattle.dx_tokens.specs.Tokens.{is_digit}
 use Rattle.dx_gen.specs.declared.files.TheConstants.{EMPLOYEES}
@@ -8,7 +9,8 @@ use Rattle.dx_exchange.specs.declared.mode.Mode.TheVariants.{Plain, Core}
 use Rattle.clio_ending.specs.declared.ending.Refusal.{Refusal}
 use Rattle.clio_ending.specs.declared.ending.Refusal.TheVariants.{Usage}
 use Rattle.clio_top.specs.declared.command.Command.{Command}
-use Rattle.clio_top.specs.declared.command.Command.TheVariants.{Answering, Comparing, Demonstrating, Exchanging, Judging, Showing}
+use Rattle.clio_top.specs.declared.command.Command.TheVariants.{Answering, Comparing, Demonstrating}
+use Rattle.clio_top.specs.declared.command.Command.TheVariants.{Exchanging, Judging, Showing}
 
 -- a word, by its bytes
 abbrev pub Word : Type 0
@@ -66,7 +68,8 @@ demo_with_number w mode = demo_of mode (numeral_number w)
 abbrev pub demo_said : List Word → Option Command
 demo_said [] = None
 demo_said (w ∷ []) = demo_with_number w Plain
-demo_said (v ∷ w ∷ []) = if is_core v then demo_with_number w Core else if is_core w then demo_with_number v Core else None
+demo_said (v ∷ w ∷ []) =
+    if is_core v then demo_with_number w Core else if is_core w then demo_with_number v Core else None
 demo_said (u ∷ v ∷ w ∷ words) = None
 
 -- after a command without options: nothing

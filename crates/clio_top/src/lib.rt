@@ -1,13 +1,13 @@
 //! The whole program, over what it reads from and writes to.
 //!
-//! `run` does what the words say: it exchanges data under a mapping, shows the mapping's rules and their script, exchanges the files of a
-//! demo, answers a query, judges a given target, or compares two mappings. The last three are crates of their own (`clio_answer`,
-//! `clio_judge`, `clio_compare`); what all of them share is `clio_steps`. The contract of `run` is a record (dx_stages, specs/Ending,
-//! `Runs`) of one row of stages (specs/Commands, `run_stages`): there is a look-up from names to bytes, which is what the inputs hold
-//! if they tell, in which the run ended so for its reason, and it left what it had to. More clauses say what each thing that is done
-//! comes to, and a clash (specs/Promises, over the Outcomes of each command), what a run leaves that is not done (specs/Leaving), and
-//! what comes if nothing outside fails (specs/Completing). `files` makes the files of an exchange alone (specs/FilesOf). Endings and
-//! their messages are those of `clio_ending`.
+//! `run` does what the words say: it exchanges data under a mapping, shows the mapping's rules and their script, exchanges
+//! the files of a demo, answers a query, judges a given target, or compares two mappings. The last three are crates of
+//! their own (`clio_answer`, `clio_judge`, `clio_compare`); what all of them share is `clio_steps`. The contract of `run` is
+//! one record (specs/Right, `IsRight`): in each world in which all is so that the reads answered, what each thing that is
+//! done comes to, and a clash (specs/Promises, over the Outcomes of each command), what a run leaves that is not done
+//! (specs/Leaving), and what comes if nothing outside fails (specs/Completing). A run is one row of stages (specs/Commands,
+//! `run_stages`; dx_stages, specs/Ending, `Runs`). `files` makes the files of an exchange alone (specs/FilesOf). Endings
+//! and their messages are those of `clio_ending`.
 #![tactic(auto)]
 
 mod command;
