@@ -52,11 +52,15 @@ column_text schema t c = slice_index_or (schema_table schema t).columns c []
 
 -- the columns on the left of a determination of a table: a key, or a dependency after the keys
 abbrev pub left_columns : Forest → ℕ → ℕ → List ℕ
-left_columns schema t k = (slice_index_or (determinations_of (schema_table schema t)) k (record { left = []; right = [] })).left
+left_columns schema t k =
+    (slice_index_or (determinations_of (schema_table schema t)) k (record { left = []; right = [] })).left
 
--- the clash with the names of its table, of the columns on the left of its determination and of its column in the target
+-- the clash with the names of its table, of the columns on the left of its
+-- determination and of its column in the target
 abbrev pub named_clash : Forest → Clash → Refusal
-named_clash target c = refusals.Clash c (table_name target c.table) (map (column_text target c.table) (left_columns target c.table c.key)) (column_text target c.table c.column)
+named_clash target c =
+    refusals.Clash c (table_name target c.table)
+    (map (column_text target c.table) (left_columns target c.table c.key)) (column_text target c.table c.column)
 
 -- the refusal for a fault of the exchange into this target; want of memory refuses nothing
 abbrev pub exchange_refusal : Forest → ExFault → Option Refusal

@@ -111,7 +111,8 @@ other_fault_text other_faults.Absent = codes "other.clio is absent"
 other_fault_text (other_faults.Mapping fault) = map_fault_text fault
 other_fault_text other_faults.Schemas = codes "schemas differ"
 other_fault_text other_faults.Conditions = codes "row conditions"
-other_fault_text (other_faults.Derived second rule) = codes "conversion in rule " ++ (decimal rule ++ (codes " of " ++ which_text second))
+other_fault_text (other_faults.Derived second rule) =
+    codes "conversion in rule " ++ (decimal rule ++ (codes " of " ++ which_text second))
 
 -- the text of a constant, and the empty text for a null
 abbrev pub constant_text : Value → Text
@@ -125,11 +126,16 @@ text_in row column = constant_text (slice_index_or row column (Const []))
 -- what is wrong with two rows
 abbrev pub clash_text : Clash → Text → List Text → Text → Text
 clash_text c table key column =
-    codes "table " ++ (table ++ (codes ", key (" ++ (separated key ++ (codes "): " ++ (quoted (text_in c.left c.column) ++ (codes " and " ++ (quoted (text_in c.right c.column) ++ (codes " in column " ++ column))))))))
+    codes "table " ++ (table ++ (codes ", key ("
+    ++ (separated key ++ (codes "): "
+    ++ (quoted (text_in c.left c.column)
+    ++ (codes " and " ++ (quoted (text_in c.right c.column) ++ (codes " in column " ++ column))))))))
 
 -- the commands, and what they take
 abbrev pub usage_text : Text
-usage_text = codes "usage: clio show [--core] | clio exchange [--core] [--nested] | clio demo N [--core] | clio answer | clio judge | clio compare"
+usage_text =
+    codes
+    "usage: clio show [--core] | clio exchange [--core] [--nested] | clio demo N [--core] | clio answer | clio judge | clio compare"
 
 -- the text of an ending, without a line feed
 abbrev pub message_of : Ending → Text
