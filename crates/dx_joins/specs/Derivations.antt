@@ -28,7 +28,8 @@ abbrev pub with_derived : Conversions → List ℕ → List Derived → Tuple �
 with_derived convert names derived t = t ++ derived_values convert names derived t
 
 -- the host computes the derived variable of these variables: its conversion is listed, and takes some of them
-pub record IsComputed {F M : Type 0} (calls : Calls F) (apply : Conversions) (h : Host F M) (names : List ℕ) (e : Derived) : Type 0 where
+pub record IsComputed {F M : Type 0} (calls : Calls F) (apply : Conversions) (h : Host F M)
+    (names : List ℕ) (e : Derived) : Type 0 where
   pub serves : Serves calls apply h
   pub listed : IsListed (offered h) e.code (length e.args)
   pub known : e.args ⊆ names
@@ -51,15 +52,19 @@ IsVariableWanted derived shown x = (x ∈ shown) ⊎ ((e : Derived) × (e ∈ de
 
 -- what a tuple and its derived variables, which are numbered from `first` on, give to the shown variables
 abbrev pub given_to : Conversions → List ℕ → List Derived → ℕ → List ℕ → Tuple → Tuple
-given_to convert wanted derived first shown u = map (text_of (wanted ++ range_with_len first (length derived)) (with_derived convert wanted derived u)) shown
+given_to convert wanted derived first shown u =
+    map (text_of (wanted ++ range_with_len first (length derived)) (with_derived convert wanted derived u)) shown
 
 -- one of the rows gives t
 abbrev pub GivenBy : Conversions → List ℕ → List Derived → ℕ → List ℕ → List Value → List (List ℕ) → Tuple → Type 0
-GivenBy convert wanted derived first shown symbols rows t = (r : List ℕ) × (r ∈ rows) × (t ≡ given_to convert wanted derived first shown (texts_of symbols r))
+GivenBy convert wanted derived first shown symbols rows t =
+    (r : List ℕ) × (r ∈ rows) × (t ≡ given_to convert wanted derived first shown (texts_of symbols r))
 
 -- the collection gets the row of texts that a row and its derived variables have at these places
-pub record DerivesTo (convert : Conversions) (wanted : List ℕ) (derived : List Derived) (places : List ℕ) (old new : List Value) (row : List ℕ) (full : Bool) (before after : Collection) : Type 0 where
+pub record DerivesTo (convert : Conversions) (wanted : List ℕ) (derived : List Derived)
+    (places : List ℕ) (old new : List Value) (row : List ℕ) (full : Bool) (before after : Collection) : Type 0 where
   pub got : List ℕ
   pub texts : AreTexts new got
-  pub shown : texts_of new got ≡ map (λ i. slice_index_or (with_derived convert wanted derived (texts_of old row)) i []) places
+  pub shown : texts_of new got
+      ≡ map (λ i. slice_index_or (with_derived convert wanted derived (texts_of old row)) i []) places
   pub collects : Collects full before after (λ t. t ≡ got)

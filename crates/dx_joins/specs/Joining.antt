@@ -22,7 +22,9 @@ AreMarked marks row = Each row (λ n. slice_index_or marks n false ≡ true)
 
 -- the numbers of a pattern's variables are a row of its table, each of them marked
 abbrev pub MatchesPattern : List NumberTable → List Bool → (ℕ → ℕ) → Pattern → Type 0
-MatchesPattern tables marks numbers p = (map numbers p.variables.items ∈ (numbers_of_table tables p.table).rows) × AreMarked marks (map numbers p.variables.items)
+MatchesPattern tables marks numbers p =
+    (map numbers p.variables.items ∈ (numbers_of_table tables p.table).rows)
+    × AreMarked marks (map numbers p.variables.items)
 
 -- so are those of each pattern
 abbrev pub MatchesPatterns : List NumberTable → List Bool → List Pattern → (ℕ → ℕ) → Type 0

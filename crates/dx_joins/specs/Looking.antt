@@ -15,7 +15,8 @@ pub record Links (keys heads nexts : List ℕ) (from : ℕ) : Type 0 where
   pub some : 0 < length heads
   pub many : length nexts ≡ length keys
   pub head : (b : ℕ) → b < length heads → IsNextInBucket keys (length heads) b from (slice_index heads b)
-  pub next : (p : ℕ) → from ≤ p → p < length keys → IsNextInBucket keys (length heads) (slice_index keys p % length heads) (p + 1) (slice_index nexts p)
+  pub next : (p : ℕ) → from ≤ p → p < length keys
+      → IsNextInBucket keys (length heads) (slice_index keys p % length heads) (p + 1) (slice_index nexts p)
 
 -- the index is that of the keys
 abbrev pub IsBucketIndex : Index → List ℕ → Type 0

@@ -1,5 +1,6 @@
 -- How a row of a table of partial matches and a row of a pattern's table are put together.
-use Rattle.std.specs.Prelude.{◌≡◌, ◌↔◌, ◌⊎◌, ◌<◌, ◌≤◌, ◌+◌, ◌^◌, ℕ, suc, cond, eqb, Bool, List, [], ◌∷◌, ◌++◌, length, map, slice_index}
+use Rattle.std.specs.Prelude.{◌≡◌, ◌↔◌, ◌⊎◌, ◌<◌, ◌≤◌, ◌+◌, ◌^◌, ℕ, suc, cond, eqb}
+use Rattle.std.specs.Prelude.{Bool, List, [], ◌∷◌, ◌++◌, length, map, slice_index}
 use Rattle.dx_base.specs.Members.{◌∈◌, ◌⊆◌, Distinct, Each}
 use Rattle.dx_instance.specs.Cells.{NumberTable}
 use Rattle.dx_instance.specs.Shown.{numbers_of_table}
@@ -80,10 +81,12 @@ pub record IsPartialTable (p : Partial) : Type 0 where
 -- t comes of a partial match and a row of the pattern's table
 abbrev pub StepsTo : List NumberTable → List Bool → Partial → Pattern → List ℕ → List ℕ → Type 0
 StepsTo tables marks p pattern kept t =
-    (r : List ℕ) × (r ∈ p.rows.rows) × (s : List ℕ) × (s ∈ (numbers_of_table tables pattern.table).rows) × AreMarked marks s × IsJoinOf p.variables.items pattern.variables.items kept r s t
+    (r : List ℕ) × (r ∈ p.rows.rows) × (s : List ℕ) × (s ∈ (numbers_of_table tables pattern.table).rows)
+    × AreMarked marks s × IsJoinOf p.variables.items pattern.variables.items kept r s t
 
 -- the partial matches are those of the patterns that are done, for the variables that are needed
-pub record HoldsPartialMatches (tables : List NumberTable) (marks : List Bool) (done later : List Pattern) (wanted : List ℕ) (p : Partial) : Type 0 where
+pub record HoldsPartialMatches (tables : List NumberTable) (marks : List Bool)
+    (done later : List Pattern) (wanted : List ℕ) (p : Partial) : Type 0 where
   pub told : AreRowsWith (MatchesPatterns tables marks done) p.variables.items p.rows.rows
   pub kept : (x : ℕ) → x ∈ variables_of_patterns done → IsVariableNeeded later wanted x → x ∈ p.variables.items
   pub once : Distinct p.variables.items
@@ -93,11 +96,13 @@ pub record HoldsPartialMatches (tables : List NumberTable) (marks : List Bool) (
 -- with one pattern more done, the new partial matches are those of the patterns that are done
 abbrev pub CarriesOn : List NumberTable → List Bool → Pattern → List Pattern → List ℕ → Partial → Partial → Type 0
 CarriesOn tables marks pattern later wanted old new =
-    (done : List Pattern) → HoldsPartialMatches tables marks done (pattern ∷ later) wanted old → HoldsPartialMatches tables marks (done ++ pattern ∷ []) later wanted new
+    (done : List Pattern) → HoldsPartialMatches tables marks done (pattern ∷ later) wanted old
+    → HoldsPartialMatches tables marks (done ++ pattern ∷ []) later wanted new
 
 -- a match of the patterns gives t to the variables
 abbrev pub IsMatchRow : List NumberTable → List Bool → List Pattern → List ℕ → List ℕ → Type 0
-IsMatchRow tables marks patterns shown t = (numbers : ℕ → ℕ) × MatchesPatterns tables marks patterns numbers × (t ≡ map numbers shown)
+IsMatchRow tables marks patterns shown t =
+    (numbers : ℕ → ℕ) × MatchesPatterns tables marks patterns numbers × (t ≡ map numbers shown)
 
 -- the rows are what the matches of the patterns give to the variables
 abbrev pub AreMatchRows : List NumberTable → List Bool → List Pattern → List ℕ → NumberTable → Type 0

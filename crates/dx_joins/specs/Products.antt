@@ -23,10 +23,13 @@ Crosses lefts rights places t = (r : List ℕ) × (r ∈ lefts) × CrossesWith r
 
 -- the rows are what the matches of the patterns give to the variables; no rows are there if that is more than is wanted
 abbrev pub GivesRows : List NumberTable → List Bool → ℕ → List Pattern → List ℕ → Option NumberTable → Type 0
-GivesRows tables marks most patterns variables o = MatchOption o (MoreThan most (IsMatchRow tables marks patterns variables)) (λ r. AreMatchRows tables marks patterns variables r)
+GivesRows tables marks most patterns variables o =
+    MatchOption o (MoreThan most (IsMatchRow tables marks patterns variables))
+    (λ r. AreMatchRows tables marks patterns variables r)
 
 -- the part is what the patterns give to those of their variables that are shown
-pub record IsPartOf (tables : List NumberTable) (marks : List Bool) (most : ℕ) (patterns : List Pattern) (shown : List ℕ) (p : Part) : Type 0 where
+pub record IsPartOf (tables : List NumberTable) (marks : List Bool) (most : ℕ) (patterns : List Pattern)
+    (shown : List ℕ) (p : Part) : Type 0 where
   pub gives : GivesRows tables marks most patterns p.variables.items p.rows
   pub known : p.variables.items ⊆ variables_of_patterns patterns
   pub wanted : p.variables.items ⊆ shown
@@ -48,10 +51,13 @@ pub record StandsApart (patterns : List Pattern) (shown : List ℕ) (p : Part) :
 -- whatever patterns two parts are of, if those share no variable, the rows are what all of them give to the variables
 abbrev pub IsProduct : ℕ → Part → Part → List ℕ → Option NumberTable → Type 0
 IsProduct most left right kept o =
-    (tables : List NumberTable) (marks : List Bool) (first second : List Pattern) (shown : List ℕ) → IsPartOf tables marks most first shown left → IsPartOf tables marks most second shown right → ShareNone first second
+    (tables : List NumberTable) (marks : List Bool) (first second : List Pattern) (shown : List ℕ)
+    → IsPartOf tables marks most first shown left → IsPartOf tables marks most second shown right
+    → ShareNone first second
     → left.variables.items ⊆ kept → right.variables.items ⊆ kept → GivesRows tables marks most (first ++ second) kept o
 
 -- with some patterns more, the new part is that of all of them
 abbrev pub PartGrows : List NumberTable → List Bool → ℕ → List Pattern → List ℕ → Part → Part → Type 0
 PartGrows tables marks most patterns shown old new =
-    (first : List Pattern) → IsPartOf tables marks most first shown old → ShareNone first patterns → IsPartOf tables marks most (first ++ patterns) shown new
+    (first : List Pattern) → IsPartOf tables marks most first shown old → ShareNone first patterns
+    → IsPartOf tables marks most (first ++ patterns) shown new

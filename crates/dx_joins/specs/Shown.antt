@@ -33,13 +33,15 @@ abbrev pub AreTexts : List Value → List ℕ → Type 0
 AreTexts symbols row = Each row (λ n. (n < length symbols) × (is_text (value_of symbols n) ≡ true))
 
 -- the texts make a match of a premise with derived variables, as in a rule
-pub record IsFound (convert : Conversions) (premise : List Atom) (derived : List Derived) (I : List Fact) (texts : ℕ → Text) : Type 0 where
+pub record IsFound (convert : Conversions) (premise : List Atom) (derived : List Derived)
+    (I : List Fact) (texts : ℕ → Text) : Type 0 where
   pub atoms : (a : Atom) → a ∈ premise → premise_fact texts a ∈ I
   pub derives : Derive convert texts (after_cells (cells_of premise)) derived
 
 -- a match gives t to these variables
 abbrev pub IsMatchTuple : Conversions → List Atom → List Derived → List Fact → List ℕ → Tuple → Type 0
-IsMatchTuple convert premise derived I shown t = (texts : ℕ → Text) × IsFound convert premise derived I texts × (t ≡ map texts shown)
+IsMatchTuple convert premise derived I shown t =
+    (texts : ℕ → Text) × IsFound convert premise derived I texts × (t ≡ map texts shown)
 
 -- rows of one width stand for the tuples that have P, each once, in order of their numbers
 pub record StandFor (columns : ℕ) (P : Tuple → Type 0) (symbols : List Value) (table : NumberTable) : Type 0 where
@@ -60,8 +62,9 @@ pub record MoreTuples (most : ℕ) (P : Tuple → Type 0) : Type 0 where
 abbrev pub shown_facts : NumberedInstance → List Fact
 shown_facts source = facts (shown_tables source.symbols source.tables)
 
--- what is asked of a premise, derived variables and the variables to be shown: the premise has variables alone, of which each
--- one below their number stands there; conversions take variables of the premise; and no other variables are shown
+-- what is asked of a premise, derived variables and the variables to be shown: the premise has variables alone, of
+-- which each one below their number stands there; conversions take variables of the premise;
+-- and no other variables are shown
 pub record FitsMatching (widths : List ℕ) (premise : List Atom) (derived : List Derived) (shown : List ℕ) : Type 0 where
   pub some : 0 < length premise
   pub plain : Each premise (λ a. Each a.cells IsVariable)
