@@ -24,7 +24,8 @@ abbrev pub VerdictSays : Conversions → JudgeInput → Verdict → Type 0
 VerdictSays convert a (verdicts.NotSolution why) = ¬ (IsSolution convert a.rules a.schema a.rows a.given)
 VerdictSays convert a (verdicts.Solution other) =
     IsSolution convert a.rules a.schema a.rows a.given × (¬ (IsUniversal convert a.rules a.schema a.rows a.given))
-VerdictSays convert a (verdicts.Universal map missed) = IsUniversal convert a.rules a.schema a.rows a.given × (¬ (IsCore a.given))
+VerdictSays convert a (verdicts.Universal map missed) =
+    IsUniversal convert a.rules a.schema a.rows a.given × (¬ (IsCore a.given))
 VerdictSays convert a verdicts.Core = IsUniversal convert a.rules a.schema a.rows a.given × IsCore a.given
 
 -- a verdict says it truly
@@ -48,7 +49,9 @@ AreOneKind _ _ = ⊥
 
 -- two verdicts on one instance are of one kind
 abbrev pub VerdictsAreOne : Type 0
-VerdictsAreOne = (convert : Conversions) (a : JudgeInput) (v w : Verdict) → IsVerdict convert a v → IsVerdict convert a w → AreOneKind v w
+VerdictsAreOne =
+    (convert : Conversions) (a : JudgeInput) (v w : Verdict) → IsVerdict convert a v
+    → IsVerdict convert a w → AreOneKind v w
 
 -- rules that fit, and an instance of the target's schema
 pub record InputFits (list : List Conversion) (source : List Table) (a : JudgeInput) : Type 0 where
@@ -71,7 +74,8 @@ VerdictByMembers =
 abbrev pub VerdictByMatches : Type 0
 VerdictByMatches =
     (convert : Conversions) (a : JudgeInput) (J : List Fact) (rows : Rows) (v : Verdict)
-    → AreRows convert a.rules a.rows rows → AreRows convert a.rules J rows → IsVerdict convert a v → IsVerdict convert (record a { rows = J }) v
+    → AreRows convert a.rules a.rows rows → AreRows convert a.rules J rows → IsVerdict convert a v
+    → IsVerdict convert (record a { rows = J }) v
 
 -- the canonical instance of a solution has no clash: some instance in which keys hold receives it
 abbrev pub NoClash : Type 0
@@ -86,4 +90,5 @@ AreSameFault e f = e ≡ f
 -- what fits is judged, or the canonical cells pass the limit, and never both
 abbrev pub JudgedOrLimit : Type 0
 JudgedOrLimit =
-    (convert : Conversions) (list : List Conversion) (source : List Table) → IsDecided AreSameFault (InputFits list source) (judging convert)
+    (convert : Conversions) (list : List Conversion) (source : List Table)
+    → IsDecided AreSameFault (InputFits list source) (judging convert)

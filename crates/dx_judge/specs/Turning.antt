@@ -32,4 +32,5 @@ pub record IsTableTurned (order : List ℕ) (old new : NumberTable) : Type 0 whe
 -- so it is with each table and its order
 pub record AreTablesTurned (orders : List (List ℕ)) (old new : List NumberTable) : Type 0 where
   pub many : length new ≡ length old
-  pub each : (t : ℕ) → t < length old → IsTableTurned (order_at orders t) (numbers_of_table old t) (numbers_of_table new t)
+  pub each : (t : ℕ) → t < length old
+      → IsTableTurned (order_at orders t) (numbers_of_table old t) (numbers_of_table new t)
