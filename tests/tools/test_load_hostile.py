@@ -121,6 +121,16 @@ class OnSqlite(Hostile):
         for count in "2 inserted, 0 changed, 0 deleted, 0 equal", "0 inserted, 0 changed, 0 deleted, 2 equal":
             self.assertIn(count, self.printed("clio-load", *self.words))
 
+    def test_a_key_that_the_mapping_lacks(self) -> None:
+        """Two rows that are one by the table's key are refused, also if that row is there already."""
+        self.run_sql("CREATE TABLE t (a TEXT PRIMARY KEY, x TEXT)")
+        for rows in "k,1\n", "k,1\nl,1\n":
+            self.source("a,x", rows)
+            self.printed("clio-load", *self.words)
+        for rows in "k,1\nk,2\nl,1\n", "k,2\nk,3\nl,1\n", "k,1\nl,1\nm,1\nm,2\n":
+            self.source("a,x", rows)
+            self.refused("clio-load", *self.words, "--dry-run", why="belongs to several rows")
+
     def test_a_key_that_is_not_unique(self) -> None:
         """A row of somebody else with the key of a row that a load wrote stays."""
         self.run_sql("CREATE TABLE t (no INTEGER, x TEXT)")
@@ -274,12 +284,23 @@ class OnPostgres(Hostile):
             self.assertEqual(self.rows("SELECT id FROM t"), [("7",)] * count)
             self.session.run("INSERT INTO t VALUES (7, 'mine') ON CONFLICT DO NOTHING")
 
+    def test_a_key_that_the_mapping_lacks(self) -> None:
+        """Two rows that are one by the table's key are refused, also if that row is there already."""
+        self.session.run("CREATE TABLE t (a text PRIMARY KEY, x text)")
+        for rows in "k,1\n", "k,1\nl,1\n":
+            self.source("a,x", rows)
+            self.printed("clio-load", *self.words)
+        for rows in "k,1\nk,2\nl,1\n", "k,2\nk,3\nl,1\n", "k,1\nl,1\nm,1\nm,2\n":
+            self.source("a,x", rows)
+            self.refused("clio-load", *self.words, "--dry-run", why="belongs to several rows")
+
     def test_inheritance(self) -> None:
         """A row of a table that inherits is not deleted for one that a load wrote."""
         self.session.run("CREATE TABLE t (id int PRIMARY KEY, x text); CREATE TABLE kid () INHERITS (t)")
         self.source("id,x", "1,a\n2,b\n")
         self.printed("clio-load", *self.words)
         self.session.run("INSERT INTO kid VALUES (1, 'mine')")
+        self.refused("clio-load", *self.words, "--dry-run", why="belongs to several rows")
         self.source("id,x", "2,b\n")
         self.refused("clio-load", *self.words, "--delete", why="has several rows with the key")
         self.assertEqual(self.rows("SELECT * FROM kid"), [("1", "mine")])

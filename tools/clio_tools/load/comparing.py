@@ -15,7 +15,7 @@ from __future__ import annotations
 from dataclasses import dataclass, field
 
 from clio_tools.draft.names import shown
-from clio_tools.load.catalog import ForeignKey
+from clio_tools.load.catalog import INTEGER, NUMBER, ForeignKey
 from clio_tools.load.database import Database, identifier
 from clio_tools.load.plan import Plan, TablePlan
 from clio_tools.load.record import Record
@@ -100,14 +100,17 @@ class Comparison:
     def check_pairs(self, plan: TablePlan, key: list[int]) -> None:
         """Refuses rows of the target that are one row of the table, as those with 1 and 01 in a column of numbers, and
         rows of the table that are one of the target."""
-        columns = [plan.loaded[place] for place in key]
-        is_unique = plan.key_names() in plan.table.keys
-        if is_unique and all(place in plan.numbered or self.database.is_exact(plan, column)
-                             for place, column in zip(key, columns)):
+        exact = {place for place in key if place in plan.numbered
+                 or self.database.is_exact(plan, plan.loaded[place])}
+        values = {place for place in key if plan.loaded[place].kind in (INTEGER, NUMBER)}
+        is_unique = plan.key_names() in plan.table.keys and not plan.table.is_shared
+        if is_unique and exact == set(key) and plan.has_key_within(key):
             return
-        cells = ", ".join(f"t.{identifier(column.name)}" for column in columns)
-        found = self.database.first(f"SELECT {cells} FROM {plan.work('new')} AS n JOIN {plan.table.sql} AS t"
-                                    f" ON {self.match(plan, 't', 'n')} GROUP BY {cells} HAVING count(*) > 1")
+        cells, source = ", ".join(f"n.c{place}" for place in key), f"{plan.work('new')} AS n"
+        if not is_unique or exact | values != set(key):  # rows may be one for the table that aren't for themselves
+            cells = ", ".join(f"t.{identifier(plan.loaded[place].name)}" for place in key)
+            source += f" JOIN {plan.table.sql} AS t ON {self.match(plan, 't', 'n')}"
+        found = self.database.first(f"SELECT {cells} FROM {source} GROUP BY {cells} HAVING count(*) > 1")
         if found:
             which = f"the key ({', '.join(plan.key_names())}) {', '.join(shown(str(cell)) for cell in found[0])}"
             raise Refused(f"{which} belongs to several rows of out/{plan.set.name}.csv or of table"

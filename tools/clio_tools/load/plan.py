@@ -42,6 +42,12 @@ class TablePlan:
         """The place of a column of the table among those that are loaded."""
         return next((place for place, column in enumerate(self.loaded) if column.name == name), None)
 
+    def has_key_within(self, places: list[int]) -> bool:
+        """Whether the mapping declares a key of some of these columns, so that clio writes no two rows with equal
+        texts there."""
+        names = {self.set.columns[self.columns[place][0]] for place in places}
+        return any(names.issuperset(key) for key in self.set.keys)
+
     def key_names(self) -> list[str]:
         """The columns by which rows are matched."""
         return [self.loaded[place].name for place in (range(len(self.columns)) if self.key is None else self.key)]
