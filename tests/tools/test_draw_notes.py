@@ -69,6 +69,7 @@ class Notes(Page):
     def test_rows_are_chosen_by_a_click(self) -> None:
         self.open(draw_trial.copy_of("teams"))
         self.browser.click('#target [data-key="person"] .menu')
+        self.until_shown("#inspector", "Its rows are what lines to it, and to team, say: its refs lead there.")
         self.press("#inspector", "emp")
         self.until_text("rows person from emp;\nline emp.name -> person.name;")
         self.until_shown('#target [data-key="person"] .menu', "from emp")
@@ -79,6 +80,19 @@ class Notes(Page):
         self.until_text("rows person from emp;\n")
         self.press("#inspector .origin", "delete")
         self.browser.until("!clioDraw.model.text.includes('rows ')")
+
+    def test_what_is_left_out_is_said(self) -> None:
+        """A first line in a target of many refs: the set of which lines say too much waits, the others have rows."""
+        folder = draw_trial.copy_of("northwind")
+        text = (folder / "drawing.clio").read_text()
+        (folder / "drawing.clio").write_text(text[:text.index("// Each row")] + "rows country from Countries;\n"
+                                             "line Countries.Code -> country.code;\n"
+                                             "line Countries.Name -> country.name;\n")
+        self.open(folder)
+        self.until_shown("#fault", "Left out: sale, sale_line.")
+        self.until_shown("[data-table=country] tbody", "Name 1")
+        self.press("#fault", "sale from ..")
+        self.until_shown("#inspector", "set sale")
 
     def test_a_way_is_offered_where_one_is_missing(self) -> None:
         folder = draw_trial.copy_of("flights")
