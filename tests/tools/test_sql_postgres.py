@@ -272,9 +272,8 @@ class Several(Server):
 
     def schemas(self) -> list[str | None]:
         """The work schemas that are left anywhere."""
-        found = [session.column("SELECT nspname FROM pg_namespace WHERE nspname LIKE 'clio\\_run%'")
-                 for session in self.parts]
-        return sum(found, [])
+        return [name for session in self.parts
+                for name in session.column("SELECT nspname FROM pg_namespace WHERE nspname LIKE 'clio\\_run%'")]
 
     def target(self) -> list[list[tuple[str | None, ...]]]:
         return [sorted(self.session.rows(f"SELECT * FROM target.{name}")) for name in LISTED]
