@@ -44,15 +44,6 @@ module _ (N : NumberedInstance) (fit : PartsFit N.symbols N.tables) (from to : A
       (row_below N fit from r _ (in_at (row_numbers N from) i 0 h)) (row_below N fit to q _ (in_at (row_numbers N to) i 0 k))
       (sym (kept g moves) ∙ v))
 
-  pub other_after : (g : NullId → Value) (i y : ℕ) → i < length (row_numbers N from) → i < length (row_numbers N to) → y < length N.symbols
-      → value_of N.symbols y ≡ moved g (value_of N.symbols (get_or (row_numbers N from) i 0)) → ¬ (y ≡ get_or (row_numbers N to) i 0)
-      → ¬ (fact_moved g (fact_of N from) ≡ fact_of N to)
-  other_after g i y h k l is apart e =
-      let d : map (moved g) (row_at (shown_by N) from.table from.place) ≡ row_at (shown_by N) to.table to.place = ap (λ (f : Fact). f.row) e in
-      let v = at_column g N.symbols (row_numbers N from) (row_numbers N to) i h k (rw (row_is N fit from r, row_is N fit to q) at d) in
-      apart (number_same N.symbols y (get_or (row_numbers N to) i 0) fit.apart l
-      (row_below N fit to q _ (in_at (row_numbers N to) i 0 k)) (is ∙ v))
-
 -- a fact that can be moved elsewhere can so beside facts that are never moved to it
 pub apart_avoids : (N : NumberedInstance) (T : List Fact) (all rows : List At) (at : At) → Each rows (IsApart N T all at)
     → ¬ (Avoids T (map (fact_of N) rows) (fact_of N at)) → ¬ (Avoids T (fact_of N at ∷ []) (fact_of N at))

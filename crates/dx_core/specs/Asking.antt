@@ -34,10 +34,13 @@ pub record IsAtomOf (N : NumberedInstance) (nulls : List ℕ) (at : At) (atom : 
   pub terms : AllZip (IsTermOf nulls) (row_numbers N at) atom.terms
 
 -- the atoms of those of the rows that are not taken out
-pub record AreAtoms (N : NumberedInstance) (nulls : List ℕ) (out : List (List Bool)) (rows : List At) (atoms : List PatternAtom)
+pub record AreAtoms (N : NumberedInstance) (nulls : List ℕ) (out : List (List Bool)) (rows : List At)
+    (atoms : List PatternAtom)
     : Type 0 where
-  pub only : Each atoms (λ atom. (at : At) × (at ∈ rows) × IsAtomOf N nulls at atom × (is_out out at.table at.place ≡ false))
-  pub all : Each rows (λ at. is_out out at.table at.place ≡ false → (atom : PatternAtom) × (atom ∈ atoms) × IsAtomOf N nulls at atom)
+  pub only : Each atoms (λ atom. (at : At) × (at ∈ rows) × IsAtomOf N nulls at atom
+      × (is_out out at.table at.place ≡ false))
+  pub all : Each rows (λ at. is_out out at.table at.place ≡ false
+      → (atom : PatternAtom) × (atom ∈ atoms) × IsAtomOf N nulls at atom)
 
 -- each null with the value under its number in an answer
 abbrev pub pairs_by : NumberedInstance → List ℕ → List ℕ → List NullPair
@@ -60,6 +63,8 @@ abbrev pub MovesOff : (NullId → Value) → List Fact → List Fact → Fact �
 MovesOff g T F f = Each F (λ e. e ∈ T → (fact_moved g e ∈ T) × (¬ (fact_moved g e ≡ f)))
 
 -- what is known of variables: these are numbers of nulls that every endomorphism of T keeps
-pub record KnownAreRigid (N : NumberedInstance) (T : List Fact) (nulls : List ℕ) (known : List (Option ℕ)) : Type 0 where
+pub record KnownAreRigid (N : NumberedInstance) (T : List Fact) (nulls : List ℕ)
+    (known : List (Option ℕ)) : Type 0 where
   pub long : length known ≡ length nulls
-  pub rigid : (v n : ℕ) → slice_index_or known v None ≡ Some n → (slice_index_or nulls v 0 ≡ n) × IsRigid T (null_under N n)
+  pub rigid : (v n : ℕ) → slice_index_or known v None ≡ Some n
+      → (slice_index_or nulls v 0 ≡ n) × IsRigid T (null_under N n)

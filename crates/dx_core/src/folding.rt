@@ -1,15 +1,17 @@
-// Rows of a block that are images of its rows, if its nulls get numbers.
-ghost use Rattle.std.specs.Prelude.{◌≡◌, ◌<◌, ◌^◌, false, length, map};
-ghost use Rattle.dx_base.specs.Members.{◌∈◌, Each};
+// What rows of a block become, if its nulls get numbers.
+ghost use Rattle.std.specs.Prelude.{◌≡◌, ◌<◌, ◌^◌, IfOk, IfSome, length};
+ghost use Rattle.std.specs.List.{AllZip};
 ghost use Rattle.dx_model.specs.Instances.{fact_moved, given};
 ghost use Rattle.dx_blocks.specs.Numbered.{IsRowIn, fact_of};
+ghost use Rattle.dx_blocks.specs.NullRows.{row_numbers};
 ghost use Rattle.dx_core.specs.Asking.{AscendStrictly, IsNumberAfter, pairs_by};
-ghost use Rattle.dx_core.specs.Sparing.{IsTried};
+ghost use Rattle.dx_core.specs.Sparing.{AreImages, IsTried};
 
 use crate::asking::term_of;
 use dx_blocks::{At, NumberBlock};
 use dx_instance::Numbers;
-use dx_solver::Term;
+use dx_solver::{Taken, Term};
+use std::alloc::{AllocError, Global};
 
 /// A number for each null of a block: what the null becomes.
 #[derive(Clone, Copy)]
@@ -33,42 +35,74 @@ fn number_after(nulls: &[u32], answer: &[u32], number: u32) -> u32
 }
 
 impl<'a> BlockMove<'a> {
-    // Whether one row of the block may become another.
-    fn becomes(&self, numbers: &Numbers<'_>, from: At, to: At) -> bool
+    // The numbers that a row has after the move.
+    fn row_after(
+        &self,
+        alloc: Global,
+        numbers: &Numbers<'_>,
+        at: At,
+    ) -> Result<Vec<u32>, AllocError>
         requires block { IsTried numbers.now self.now.block.now }
-        requires from { IsRowIn numbers.now from }
-        requires to { IsRowIn numbers.now to }
-        ensures { result ≡ false → ¬ (fact_moved (given (pairs_by numbers.now self.now.block.now.nulls self.now.answer.now))
-            (fact_of numbers.now from) ≡ fact_of numbers.now to) }
+        requires row { IsRowIn numbers.now at }
+        ensures { IfOk result (λ after. AllZip (IsNumberAfter self.now.block.now.nulls self.now.answer.now)
+            (row_numbers numbers.now at) after.items) }
     {
-        if from.table != to.table {
-            return false;
-        }
-        let count = numbers.len();
+        let _fit = numbers.len();
         let nulls = self.block.nulls.items();
-        let old_row = numbers.row(from.table, from.place);
-        let new_row = numbers.row(to.table, to.place);
-        for column in 0..old_row.len() {
-            let after = number_after(nulls, self.answer, old_row[column]);
-            if after < count && after != new_row[column] {
-                return false;
-            }
+        let mut after = Vec::new(alloc);
+        for number in numbers.row(at.table, at.place) {
+            after.push(number_after(nulls, self.answer, *number))?;
         }
-        true
+        Ok(after)
     }
 
-    /// Whether some row of the block may become this one.
-    pub(crate) fn is_image(&self, numbers: &Numbers<'_>, to: At) -> bool
+    // The row that a row of the block becomes, if it becomes one that is there.
+    fn image(&self, alloc: Global, numbers: &Numbers<'_>, at: At) -> Result<Option<At>, AllocError>
         requires block { IsTried numbers.now self.now.block.now }
-        requires to { to ∈ self.now.block.now.rows }
-        ensures { result ≡ false → Each (map (fact_of numbers.now) self.now.block.now.rows)
-            (λ e. ¬ (fact_moved (given (pairs_by numbers.now self.now.block.now.nulls self.now.answer.now)) e ≡ fact_of numbers.now to)) }
+        requires row { IsRowIn numbers.now at }
+        ensures there { IfOk result (λ o. IfSome o (IsRowIn numbers.now)) }
+        ensures becomes { IfOk result (λ o. IfSome o (λ to. fact_moved
+            (given (pairs_by numbers.now self.now.block.now.nulls self.now.answer.now)) (fact_of numbers.now at)
+            ≡ fact_of numbers.now to)) }
     {
-        for from in self.block.rows.items() {
-            if self.becomes(numbers, *from, to) {
-                return true;
-            }
+        let _fit = numbers.len();
+        let after = self.row_after(alloc, numbers, at)?;
+        match numbers.find_row(at.table, &after) {
+            None => Ok(None),
+            Some(place) => Ok(Some(At {
+                table: at.table,
+                place,
+            })),
         }
-        false
+    }
+
+    /// The rows that those rows of the block become that are not taken out. There is no answer if one of them becomes
+    /// none that is there.
+    ///
+    /// # Errors
+    ///
+    /// `AllocError` if there is no memory.
+    pub(crate) fn images(
+        &self,
+        alloc: Global,
+        numbers: &Numbers<'_>,
+        taken: &Taken,
+    ) -> Result<Option<Vec<At>>, AllocError>
+        requires block { IsTried numbers.now self.now.block.now }
+        ensures { IfOk result (λ o. IfSome o (λ images. AreImages numbers.now taken.now
+            (given (pairs_by numbers.now self.now.block.now.nulls self.now.answer.now)) self.now.block.now.rows
+            images.items)) }
+    {
+        let mut images = Vec::new(alloc);
+        for at in self.block.rows.items() {
+            if taken.has(at.table, at.place) {
+                continue;
+            }
+            let Some(image) = self.image(alloc, numbers, *at)? else {
+                return Ok(None);
+            };
+            images.push(image)?;
+        }
+        Ok(Some(images))
     }
 }

@@ -34,26 +34,26 @@ fold_block-requires-clause-moves c =
     (same_moves c.ask.new.self.numbers s.numbers c.args.task.now.block.now.nulls _ c.ask.new.self.taken s.taken c.args.task.now.block.now.rows c.args.at
     (sym c.in_ok-together.ensures.numbers) (sym c.in_ok-together.ensures.taken) moves)
 
-pub returns-in-Some-clause-reduct : goal.returns-in-Some-clause-reduct
-returns-in-Some-clause-reduct c =
+pub returns-in_ok-fold_block-in-Some-clause-reduct : goal.returns-in_ok-fold_block-in-Some-clause-reduct
+returns-in_ok-fold_block-in-Some-clause-reduct c =
     let s = c.args.self.now in
     same_reduct s.numbers c.ask.new.self.numbers s.taken c.ask.new.self.taken c.fold_block.new.self.taken c.in_ok-together.ensures.numbers
-    c.in_ok-together.ensures.taken c.fold_block.ensures.reduct
+    c.in_ok-together.ensures.taken c.in_ok-fold_block-in-Some.ensures.reduct
 
-pub returns-in-Some-clause-needed : goal.returns-in-Some-clause-needed
-returns-in-Some-clause-needed c = λ m.
+pub returns-in_ok-fold_block-in-Some-clause-needed : goal.returns-in_ok-fold_block-in-Some-clause-needed
+returns-in_ok-fold_block-in-Some-clause-needed c = λ m.
     absurd (same_gone c.args.self.now.numbers c.ask.new.self.numbers c.fold_block.new.self.taken c.args.at c.in_ok-together.ensures.numbers
-    c.fold_block.ensures.gone m)
+    c.in_ok-fold_block-in-Some.ensures.gone m)
 
-pub returns-in-Some-clause-known : goal.returns-in-Some-clause-known
-returns-in-Some-clause-known c =
+pub returns-in_ok-fold_block-in-Some-clause-known : goal.returns-in_ok-fold_block-in-Some-clause-known
+returns-in_ok-fold_block-in-Some-clause-known c =
     let s = c.args.self.now in
     known_stays s.numbers (facts_left s.numbers s.taken) _ c.args.task.now.block.now.nulls c.args.task.now.known.items
     (same_reduct s.numbers c.ask.new.self.numbers s.taken c.ask.new.self.taken c.fold_block.new.self.taken c.in_ok-together.ensures.numbers
-    c.in_ok-together.ensures.taken c.fold_block.ensures.reduct) c.requires.ready.rigid
+    c.in_ok-together.ensures.taken c.in_ok-fold_block-in-Some.ensures.reduct) c.requires.ready.rigid
 
-pub returns-in-Some-clause-others : goal.returns-in-Some-clause-others
-returns-in-Some-clause-others c =
+pub returns-in_ok-fold_block-in-Some-clause-others : goal.returns-in_ok-fold_block-in-Some-clause-others
+returns-in_ok-fold_block-in-Some-clause-others c =
     let s = c.args.self.now in
     same_others s.numbers c.ask.new.self.numbers c.args.task.now.block.now s.taken c.ask.new.self.taken c.fold_block.new.self.taken
-    c.in_ok-together.ensures.numbers c.in_ok-together.ensures.taken c.fold_block.ensures.others
+    c.in_ok-together.ensures.numbers c.in_ok-together.ensures.taken c.in_ok-fold_block-in-Some.ensures.others

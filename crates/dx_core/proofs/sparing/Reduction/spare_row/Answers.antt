@@ -3,8 +3,8 @@ use Rattle.std.proofs.lemmas.Bool.{true≢false}
 use Rattle.dx_model.proofs.Reduction.{reduct_itself}
 use Rattle.dx_blocks.specs.Numbered.{fact_of}
 use Rattle.dx_core.specs.Left.{facts_left}
-use Rattle.dx_core.proofs.Asked.{mark_place, mark_table, row_left}
-use Rattle.dx_core.proofs.Spared.{alone_same, gone_needed, known_stays, none_needed, nulls_kept, none_told, one_less, others_left, same_asked, same_avoids, same_moves, some_told}
+use Rattle.dx_core.proofs.Asked.{row_left}
+use Rattle.dx_core.proofs.Spared.{alone_same, known_stays, none_needed, nulls_kept, none_told, same_asked, same_avoids, same_gone, same_moves, same_others, same_reduct, some_told}
 use Rattle.dx_core.proofs.sparing.Reduction.spare_row.Goals as goal
 
 pub returns-then-has-clause-reduct : goal.returns-then-has-clause-reduct
@@ -77,49 +77,45 @@ returns-in-None-together-clause-needed c =
     rw (c.in_ok-together.ensures.taken, c.in_ok-alone.ensures.taken)
     (none_needed (facts_left s.numbers s.taken) (map (fact_of s.numbers) c.args.task.now.block.now.rows) (fact_of s.numbers c.args.at) none)
 
-pub take_out-requires-clause-table : goal.take_out-requires-clause-table
-take_out-requires-clause-table c =
-    let s = c.args.self.now in
-    rw (c.in_ok-together.ensures.taken, c.in_ok-alone.ensures.taken)
-    (mark_table s.numbers c.len-fit.ensures.fit s.taken c.args.at s.marks (c.requires.ready.tried.numbers.rows c.args.at c.requires.at))
+pub fold_block-requires-clause-block : goal.fold_block-requires-clause-block
+fold_block-requires-clause-block c = rw (c.in_ok-together.ensures.numbers, c.in_ok-alone.ensures.numbers) c.requires.ready.tried
 
-pub take_out-requires-clause-place : goal.take_out-requires-clause-place
-take_out-requires-clause-place c =
-    let s = c.args.self.now in
-    rw (c.in_ok-together.ensures.taken, c.in_ok-alone.ensures.taken)
-    (mark_place s.numbers c.len-fit.ensures.fit s.taken c.args.at s.marks (c.requires.ready.tried.numbers.rows c.args.at c.requires.at))
+pub fold_block-requires-clause-at : goal.fold_block-requires-clause-at
+fold_block-requires-clause-at c = c.requires.at
 
-pub returns-in-Some-clause-reduct : goal.returns-in-Some-clause-reduct
-returns-in-Some-clause-reduct c =
+pub fold_block-requires-clause-moves : goal.fold_block-requires-clause-moves
+fold_block-requires-clause-moves c =
     let s = c.args.self.now in
-    let moves = same_moves s.numbers c.ask_alone.new.self.numbers c.args.task.now.block.now.nulls _ s.taken
-    c.ask_alone.new.self.taken c.args.task.now.block.now.rows c.args.at c.in_ok-alone.ensures.numbers c.in_ok-alone.ensures.taken
-    (some_told c.ask_alone.new.self.numbers _ _ _ c.args.task.now.block.now.nulls (λ v. v.items) c.in_ok-together.together _ c.in-Some.is
-    c.in_ok-together.ensures.exact) in
-    rw (c.take_out.ensures, c.in_ok-together.ensures.taken, c.in_ok-alone.ensures.taken)
-    (one_less s.numbers c.len-fit.ensures.fit c.args.task.now.block.now c.requires.ready.tried s.taken s.marks c.args.at c.requires.at
-    _ moves)
+    let t = c.args.task.now in
+    let moves = some_told c.ask_alone.new.self.numbers _ _ _ t.block.now.nulls (λ v. v.items) c.in_ok-together.together _ c.in-Some.is
+    c.in_ok-together.ensures.exact in
+    rw c.deref.ensures.value
+    (same_moves c.ask_all.new.self.numbers c.ask_alone.new.self.numbers t.block.now.nulls _ c.ask_all.new.self.taken c.ask_alone.new.self.taken
+    t.block.now.rows c.args.at (sym c.in_ok-together.ensures.numbers) (sym c.in_ok-together.ensures.taken) moves)
 
-pub returns-in-Some-clause-needed : goal.returns-in-Some-clause-needed
-returns-in-Some-clause-needed c =
+pub returns-in_ok-fold_block-in-Some-clause-reduct : goal.returns-in_ok-fold_block-in-Some-clause-reduct
+returns-in_ok-fold_block-in-Some-clause-reduct c =
     let s = c.args.self.now in
-    rw (c.take_out.ensures, c.in_ok-together.ensures.taken, c.in_ok-alone.ensures.taken)
-    (gone_needed s.numbers c.len-fit.ensures.fit c.args.task.now.block.now c.requires.ready.tried s.taken s.marks c.args.at c.requires.at)
+    same_reduct s.numbers c.ask_all.new.self.numbers s.taken c.ask_all.new.self.taken c.fold_block.new.self.taken
+    (c.in_ok-together.ensures.numbers ∙ c.in_ok-alone.ensures.numbers) (c.in_ok-together.ensures.taken ∙ c.in_ok-alone.ensures.taken)
+    c.in_ok-fold_block-in-Some.ensures.reduct
 
-pub returns-in-Some-clause-known : goal.returns-in-Some-clause-known
-returns-in-Some-clause-known c =
-    let s = c.args.self.now in
-    let moves = same_moves s.numbers c.ask_alone.new.self.numbers c.args.task.now.block.now.nulls _ s.taken
-    c.ask_alone.new.self.taken c.args.task.now.block.now.rows c.args.at c.in_ok-alone.ensures.numbers c.in_ok-alone.ensures.taken
-    (some_told c.ask_alone.new.self.numbers _ _ _ c.args.task.now.block.now.nulls (λ v. v.items) c.in_ok-together.together _ c.in-Some.is
-    c.in_ok-together.ensures.exact) in
-    rw (c.take_out.ensures, c.in_ok-together.ensures.taken, c.in_ok-alone.ensures.taken)
-    (known_stays s.numbers (facts_left s.numbers s.taken) _ c.args.task.now.block.now.nulls c.args.task.now.known.items
-    (one_less s.numbers c.len-fit.ensures.fit c.args.task.now.block.now c.requires.ready.tried s.taken s.marks c.args.at c.requires.at
-    _ moves) c.requires.ready.rigid)
+pub returns-in_ok-fold_block-in-Some-clause-needed : goal.returns-in_ok-fold_block-in-Some-clause-needed
+returns-in_ok-fold_block-in-Some-clause-needed c = λ m.
+    absurd (same_gone c.args.self.now.numbers c.ask_all.new.self.numbers c.fold_block.new.self.taken c.args.at
+    (c.in_ok-together.ensures.numbers ∙ c.in_ok-alone.ensures.numbers) c.in_ok-fold_block-in-Some.ensures.gone m)
 
-pub returns-in-Some-clause-others : goal.returns-in-Some-clause-others
-returns-in-Some-clause-others c =
+pub returns-in_ok-fold_block-in-Some-clause-known : goal.returns-in_ok-fold_block-in-Some-clause-known
+returns-in_ok-fold_block-in-Some-clause-known c =
     let s = c.args.self.now in
-    rw (c.take_out.ensures, c.in_ok-together.ensures.taken, c.in_ok-alone.ensures.taken)
-    (others_left s.numbers c.len-fit.ensures.fit c.args.task.now.block.now c.requires.ready.tried s.taken s.marks c.args.at c.requires.at)
+    known_stays s.numbers (facts_left s.numbers s.taken) _ c.args.task.now.block.now.nulls c.args.task.now.known.items
+    (same_reduct s.numbers c.ask_all.new.self.numbers s.taken c.ask_all.new.self.taken c.fold_block.new.self.taken
+    (c.in_ok-together.ensures.numbers ∙ c.in_ok-alone.ensures.numbers) (c.in_ok-together.ensures.taken ∙ c.in_ok-alone.ensures.taken)
+    c.in_ok-fold_block-in-Some.ensures.reduct) c.requires.ready.rigid
+
+pub returns-in_ok-fold_block-in-Some-clause-others : goal.returns-in_ok-fold_block-in-Some-clause-others
+returns-in_ok-fold_block-in-Some-clause-others c =
+    let s = c.args.self.now in
+    same_others s.numbers c.ask_all.new.self.numbers c.args.task.now.block.now s.taken c.ask_all.new.self.taken c.fold_block.new.self.taken
+    (c.in_ok-together.ensures.numbers ∙ c.in_ok-alone.ensures.numbers) (c.in_ok-together.ensures.taken ∙ c.in_ok-alone.ensures.taken)
+    c.in_ok-fold_block-in-Some.ensures.others

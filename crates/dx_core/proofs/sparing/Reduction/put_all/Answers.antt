@@ -1,0 +1,35 @@
+use Rattle.std.proofs.Common.{refl}
+use Rattle.dx_base.specs.Members.{◌∈◌}
+use Rattle.dx_base.proofs.Members.{in_at}
+use Rattle.dx_core.specs.Left.{facts_left}
+use Rattle.dx_core.proofs.Asked.{mark_place, mark_table}
+use Rattle.dx_core.proofs.Folded.{back_more, back_start, first_at}
+use Rattle.dx_core.proofs.Spared.{each_fact}
+use Rattle.dx_core.proofs.sparing.Reduction.put_all.Goals as goal
+
+pub put_back-requires-clause-table : goal.put_back-requires-clause-table
+put_back-requires-clause-table c =
+    mark_table c.args.self.now.numbers c.len-fit.ensures.fit c.loop-at.self.taken _ (rw c.loop-at.invariant.numbers at c.loop-at.self.marks)
+    (c.requires _ (in_at c.args.rows.now c.loop-at.at-index first_at c.loop-at-test.true))
+
+pub put_back-requires-clause-place : goal.put_back-requires-clause-place
+put_back-requires-clause-place c =
+    mark_place c.args.self.now.numbers c.len-fit.ensures.fit c.loop-at.self.taken _ (rw c.loop-at.invariant.numbers at c.loop-at.self.marks)
+    (c.requires _ (in_at c.args.rows.now c.loop-at.at-index first_at c.loop-at-test.true))
+
+pub loop-at-init : goal.loop-at-init
+loop-at-init c = record { numbers = refl; rows = back_start c.args.self.now.numbers c.args.rows.now c.args.self.now.taken }
+
+pub loop-at-preserved : goal.loop-at-preserved
+loop-at-preserved c =
+    let N = c.args.self.now.numbers in
+    record {
+      numbers = c.loop-at.invariant.numbers;
+      rows = rw c.put_back.ensures (back_more N c.len-fit.ensures.fit c.args.rows.now c.requires c.args.self.now.taken c.loop-at.self.taken
+          (rw c.loop-at.invariant.numbers at c.loop-at.self.marks) c.loop-at.at-index c.loop-at-test.true c.loop-at.invariant.rows);
+    }
+
+pub returns-clause-there : goal.returns-clause-there
+returns-clause-there c =
+    each_fact c.args.self.now.numbers (λ f. f ∈ facts_left c.args.self.now.numbers c.loop-at.self.taken) c.args.rows.now c.loop-at.at-index first_at
+    c.loop-at-test.false c.loop-at.invariant.rows.there
