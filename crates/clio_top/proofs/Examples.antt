@@ -1,6 +1,6 @@
 -- The first worked example: employees by their names, of which persons are made, who have a telephone that is not known. The names are ann
 -- and bob. There is a solution, so an exchange is planned, in each mode.
-use Rattle.std.proofs.Common.{◌≡◌, ◌⊎◌, ◌≤◌, ◌-◌, ℕ, zero, suc, List, [], ◌∷◌, length, get_or, inr, inl, refl, sym, ◌∙◌, ap, subst, arith, Some, None, false}
+use Rattle.std.proofs.Common.{◌≡◌, ◌⊎◌, ◌-◌, ℕ, zero, suc, List, [], ◌∷◌, length, get_or, inr, inl, refl, sym, ◌∙◌, ap, subst, arith, Some, None, false}
 use Rattle.std.specs.Prelude.{codes, All}
 use Rattle.std.specs.Cmp.Lexicographic.{nat_list_cmp_total}
 use Rattle.std.specs.declared.cmp.Ordering.TheVariants.{Less}
@@ -22,9 +22,8 @@ use Rattle.dx_model.specs.declared.values.Value.TheVariants.{Const}
 use Rattle.dx_model.specs.Rules.{IsMatch, IsRows, Satisfies, premise_fact, fact_of_atom as said_fact}
 use Rattle.dx_model.specs.Solutions.{IsSolution}
 use Rattle.dx_model.specs.Tables.{Determination, FactFits, RowsObey, table_of}
-use Rattle.dx_model.specs.Values.{Conversions, Rows, RowsAscend, Tuple, row_cmp, tuple_cmp}
+use Rattle.dx_model.specs.Values.{Conversions, RowsAscend, Tuple, row_cmp, tuple_cmp}
 use Rattle.dx_base.specs.Texts.{Text}
-use Rattle.dx_model.proofs.RowsExist.{one_rows}
 use Rattle.dx_instance.specs.Stored.{TableRows, facts, rows_of}
 use Rattle.dx_schema.specs.Forest.{Forest, Tree, none, set}
 use Rattle.dx_schema.specs.Links.{IsAcyclic, IsFaultless, LeadsByLinks, directly, every_link, further}
@@ -54,7 +53,7 @@ use Rattle.clio_ending.specs.declared.ending.Done.TheVariants.{Exchanged}
 use Rattle.clio_steps.specs.declared.texts.Side.TheVariants.{First}
 use Rattle.clio_steps.specs.Outcomes.{AcceptedIn, HasSolutionIn}
 use Rattle.clio_top.specs.Completing.{HasPlanFor, small_world}
-use Rattle.clio_steps.specs.Steps.{Program, target_cells, wanted}
+use Rattle.clio_steps.specs.Steps.{Program, wanted}
 use Rattle.clio_top.proofs.Completing.{planned}
 use Rattle.clio_top.proofs.OneRule.{is_left, not_tested}
 

@@ -23,7 +23,6 @@ use Rattle.dx_compare.specs.declared.comparing.Answer.{Answer}
 use Rattle.dx_compare.specs.declared.comparing.Answer.TheVariants as answers
 use Rattle.clio_accept.specs.declared.mapping.Mapping.{Mapping}
 use Rattle.clio_accept.specs.Laws.{MappingFits}
-use Rattle.clio_accept.proofs.Accepted.{accepted_fits}
 use Rattle.clio_source.specs.Source.{RootShape, csv_name, json_name, named_by, roots, shape_at}
 use Rattle.clio_source.specs.Source as shapes
 use Rattle.clio_source.proofs.Roots.{is_root}
@@ -36,13 +35,12 @@ use Rattle.clio_files.specs.Nested.{AreRootFiles}
 use Rattle.clio_files.specs.Sheets.{PrintedFile, file_of, fold_sheet, nulls_sheet}
 use Rattle.clio_ending.specs.declared.ending.Done.{Done}
 use Rattle.clio_steps.specs.Outcomes.{IsNextFile}
-use Rattle.clio_steps.specs.Steps.{Program, exchanges, mapping_stages}
+use Rattle.clio_steps.specs.Steps.{Program, exchanges}
 use Rattle.clio_steps.specs.declared.texts.Side.TheVariants.{First}
 use Rattle.clio_steps.proofs.InWorld.{in_world}
 use Rattle.clio_steps.proofs.Spine.{fits_in}
 use Rattle.clio_steps.proofs.Words.{word_bytes}
 use Rattle.clio_compare.proofs.Pairs.{made_in}
-use Rattle.clio_steps.proofs.Mappings.{is_small}
 use Rattle.clio_judge.specs.Judging.{RowsAndBytes, wanted_given}
 use Rattle.clio_judge.specs.Outcomes.{IsNextGiven}
 use Rattle.clio_top.specs.declared.command.Command.{Command}

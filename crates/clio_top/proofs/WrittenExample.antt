@@ -72,7 +72,7 @@ use Rattle.clio_top.specs.Promises.{AsAsked, IsAnswered, IsClashOf, IsCompared, 
 use Rattle.clio_top.specs.SmallWorld.{SmallIsWritten, small_files, small_summary}
 use Rattle.clio_top.specs.Words.{Word, says}
 use Rattle.clio_top.proofs.Asked.{plan_asked}
-use Rattle.clio_top.proofs.Examples.{are_rows, emps, has_solution, is_accepted, is_source, mapping, person_determinations, persons, rows, rule, solution, solves, text, tuples, world}
+use Rattle.clio_top.proofs.Examples.{are_rows, emps, has_solution, is_accepted, is_source, mapping, person_determinations, persons, rows, rule, solution, solves, tuples, world}
 
 abbrev exchange : List Word
 exchange = codes "exchange" ∷ []
