@@ -30,12 +30,15 @@ CHANGE = """new Promise((done) => {
 
 
 def folders() -> list[tuple[str, pathlib.Path]]:
-    """The examples, the shop whose tables are drafted first, and the large mapping."""
+    """The examples, with the files of those that make a database first, and the large mapping; an example without its
+    files has made-up rows.
+    """
     found = [(path.parent.name, draw_trial.copy_of(path.parent.name)) for path, _ in draw_trial.texts()
              if path.parent.parent == draw_trial.EXAMPLES]
     for name, folder in found:
-        if (folder / "make-data").exists():
-            subprocess.run([sys.executable, folder / "make-data", folder], check=True)
+        if (folder / "make-data").exists() and not [*folder.glob("*.csv"), *folder.glob("*.json")]:
+            subprocess.run([sys.executable, folder / "make-data", folder], check=False, capture_output=True)
+        if (folder / "old.db").exists():
             subprocess.run([sys.executable, TOOLS / "clio-draft", "sqlite", folder / "old.db", "--drawing", "--data",
                             folder], check=True, capture_output=True)
     return [*found, ("large", draw_trial.large(ROWS))]
