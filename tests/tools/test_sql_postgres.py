@@ -303,7 +303,7 @@ class Several(Server):
         status, out, said = self.tool("clio-sql", "postgres", "--servers", "servers.txt", self.place)
         self.assertEqual((status, out), (3, ""), said)
         self.session.run("DELETE FROM source.dept WHERE city = 'elsewhere'")
-        for ends, status in (lambda run: run.send_signal(signal.SIGINT), 130), (self.end_a_server, 2):
+        for ends, status in (self.interrupt, 130), (self.end_a_server, 2):
             other = self.parts[2]
             part = other.value("SELECT oid::regclass FROM pg_class WHERE relname = 'emp' AND relkind = 'r'")
             other.run(f"BEGIN; LOCK TABLE {part} IN ACCESS EXCLUSIVE MODE")
@@ -317,6 +317,10 @@ class Several(Server):
                 self.assertEqual(self.schemas(), [])
         self.made("--servers", "servers.txt")  # which drops what the lost server kept
         self.assertEqual((self.target(), self.schemas()), (before, []))
+
+    def interrupt(self, run: subprocess.Popen[str]) -> None:
+        """As Ctrl-C does."""
+        run.send_signal(signal.SIGINT)
 
     def end_a_server(self, run: subprocess.Popen[str]) -> None:
         """Ends all sessions of a run on one server."""

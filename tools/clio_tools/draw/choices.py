@@ -47,7 +47,7 @@ def _starts(drawing: Drawing, name: str) -> list[str]:
 
 
 def _ways(drawing: Drawing, start: str, goal: str, is_whole: bool) -> list[Way]:
-    """The ways from a set to another; for a line from a whole set those too that lead to another row of the same set."""
+    """The ways from a set to another; for a line from a whole set also those to another row of the same set."""
     one, other = drawing.source.numbers[start], drawing.source.numbers[goal]
     circles: list[Way] = [(step,) for step in drawing.ways.steps[one] if is_whole and one == step.table == other]
     return drawing.ways.walks(one, other) + circles

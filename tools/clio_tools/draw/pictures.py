@@ -1,4 +1,4 @@
-"""The whole text as one picture, drawn as clio-picture draws a mapping; its lines have the notes of a drawing on them."""
+"""The whole text as one picture, drawn as clio-picture draws a mapping; its lines have the drawing's notes on them."""
 from ..mapping import tree
 from ..mapping.meaning import Mapping
 from ..mapping.printing import printed_test, printed_way, quoted

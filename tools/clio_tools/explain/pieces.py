@@ -40,8 +40,8 @@ Piece = str | Mark | RowLine
 
 
 class Warned(NamedTuple):
-    """A warning: its name, the set that it is about, what is said, the edit that answers it, and the target sets and the
-    rules whose lines may say more than was meant."""
+    """A warning: its name, the set that it is about, what is said, the edit that answers it, and the target sets and
+    the rules whose lines may say more than was meant."""
 
     name: str
     set: str

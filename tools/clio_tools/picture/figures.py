@@ -95,7 +95,8 @@ class Figure:
         yield from self.beside([(int(cell.content), height) for cell, height in to_there if cell.kind == EXISTENTIAL],
                                end + right, 1)
 
-    def column(self, boxes: list[AtomBox], x: float, y: float, width: float) -> Generator[Element, None, list[list[float]]]:
+    def column(self, boxes: list[AtomBox], x: float, y: float,
+               width: float) -> Generator[Element, None, list[list[float]]]:
         """Draws atoms below each other; answers the heights of their cells."""
         heights = []
         for box in boxes:

@@ -1,5 +1,5 @@
-"""A whole mapping: where its boxes, refs, lines and rules are, and the picture of them in SVG. clio-picture writes it, and
-the page of clio-draw shows it."""
+"""A whole mapping: where its boxes, refs, lines and rules are, and the picture of them in SVG. clio-picture writes it,
+and the page of clio-draw shows it."""
 import math
 from collections.abc import Iterator
 from typing import NamedTuple
@@ -17,8 +17,8 @@ TOP = 52
 
 
 class Layout(NamedTuple):
-    """Where all of a mapping is: the left rims of both sides, their boxes, refs and lines, the rules that are written by
-    hand with the left upper corner of each, and the size of the whole."""
+    """Where all of a mapping is: the left rims of both sides, their boxes, refs and lines, the rules that are written
+    by hand with the left upper corner of each, and the size of the whole."""
 
     sides: tuple[float, float]
     boxes: list[Box]

@@ -102,8 +102,8 @@ class Chase:
         return changed
 
     def replace_in(self, table: Table, part: Part, places: Sequence[int]) -> None:
-        """A table with its replaced nulls. Where a match has its rows they meet the nulls of all columns; elsewhere they
-        are brought to those of one column after the other."""
+        """A table with its replaced nulls. Where a match has its rows they meet the nulls of all columns; elsewhere
+        they are brought to those of one column after the other."""
         if table.work and self.work.engine.is_spread:
             for place in places:
                 table.put(self.work.moved(table.query(distinct=False), Home(f"n{place}")), is_loose=True)

@@ -94,8 +94,8 @@ class Matches:
         self.work, self.script, self.words, self.mapping, self.heads = work, script, work.words, mapping, heads
 
     def make(self, foresee: Callable[[dict[int, int]], dict[str, float]], together_as: dict[int, int]) -> None:
-        """Those of all rules, and of these those that are kept; `foresee` says of their rows what steps are to come, and
-        rules of one number have equal texts of their first columns together."""
+        """Those of all rules, and of these those that are kept; `foresee` says of their rows what steps are to come,
+        and rules of one number have equal texts of their first columns together."""
         engine, tests = self.work.engine, self.tests()
         names = {} if engine.is_spread else self.passing(tests)
         numbered = {insert.rule for insert in self.script.inserts if insert.has_null}

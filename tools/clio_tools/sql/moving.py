@@ -35,7 +35,8 @@ def by_hash(cells: Sequence[tuple[str, bool]], count: int) -> str:
     return f"({number} & {GREATEST}) % {count}"
 
 
-def moved(members: Sequence[Member], name: str, queries: Sequence[str], goes: str, others: Sequence[Member] = ()) -> None:
+def moved(members: Sequence[Member], name: str, queries: Sequence[str], goes: str,
+          others: Sequence[Member] = ()) -> None:
     """Makes a table on each server of the rows that go to its number by an expression (to all, if there is none; NULL
     says that a row stays). The queries are those of the servers, then those of others that only send."""
     senders = [*members, *others]
@@ -47,7 +48,8 @@ def moved(members: Sequence[Member], name: str, queries: Sequence[str], goes: st
 
     def send(source: int, number: int) -> None:
         where = f" WHERE {goes} = {number}" if goes else ""
-        senders[source].sending.hand_over(f"SELECT * FROM ({queries[source]}) AS q{where}", members[number].taking, name)
+        query = f"SELECT * FROM ({queries[source]}) AS q{where}"
+        senders[source].sending.hand_over(query, members[number].taking, name)
 
     at_once([functools.partial(keep, number) for number in range(len(members))], sessions)
     for step in range(1, len(members)):

@@ -270,7 +270,8 @@ class Reducer:
         table = self.work.name("gone")
         self.work.engine.load(table, ["u bigint", "n bigint", f"c text{self.work.words.by_bytes}"], rows)
         after = {row[1] // SHIFT for row in rows if row[1] is not None}
-        return Part(at_home(self.work, table), {row[0] // SHIFT for row in rows}, after, any(row[2] is not None for row in rows))
+        has_texts = any(row[2] is not None for row in rows)
+        return Part(at_home(self.work, table), {row[0] // SHIFT for row in rows}, after, has_texts)
 
 
 def passes(blocks: Iterable[Block], tables: int) -> Iterator[Pass]:
