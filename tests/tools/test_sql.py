@@ -219,7 +219,7 @@ class Texts(Trial):
 
 class Words(Trial):
     def test_what_is_no_call_is_refused(self) -> None:
-        self.refused("clio-sql", why="required: engine")
+        self.refused("clio-sql", why="required: postgres|sqlite")
         self.refused("clio-sql", "sqlite", "source.db", why="required: TARGET.db")
         self.refused("clio-sql", "sqlite", "source.db", "target.db", why="source.db is not there")
         self.refused("clio-sql", "postgres", "--source", why="--source asks for --servers")

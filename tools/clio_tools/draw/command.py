@@ -40,8 +40,8 @@ def words_of(words: list[str]) -> argparse.Namespace:
     """The options and the folder."""
     parser = argparse.ArgumentParser(prog="clio-draw", description="Draws a mapping in a browser.",
                                      epilog="The manual is man clio-draw.")
-    parser.add_argument("folder", nargs="?", default=".", metavar="FOLDER")
-    parser.add_argument("--port", type=int, default=0, help="the port; without it a free one is taken")
+    parser.add_argument("folder", nargs="?", default=".", metavar="FOLDER", help="the current one if it is left out")
+    parser.add_argument("--port", type=int, default=0, help="take this port; without it a free one is taken")
     parser.add_argument("--open", action="store_true", help="start a browser")
     return parser.parse_args(words)
 

@@ -55,8 +55,8 @@ doesn't. The status is 2 if something is refused. Triggers run and are taken bac
 database, nor the numbers that they, or defaults, take from sequences of other owners. It also prints the rows that the
 database stores otherwise than they are written.
 
-`--log TABLE` adds a row to a table, which is made if it isn't there: when, which mapping and sources (SHA-256),
-options, and how many rows of each table.
+`--log TABLE` adds a row on the load to this table, which is made if it isn't there: when, which mapping and sources
+(SHA-256), options, and how many rows of each table.
 
 `--wait SECONDS` waits so long for a lock of somebody else, ten seconds if it is left out.
 
@@ -100,9 +100,9 @@ def asked(words: list[str]) -> argparse.Namespace:
                                      epilog="`clio-load sqlite --help` has the options; the manual is man clio-load.")
     kinds = parser.add_subparsers(dest="kind", required=True, metavar="sqlite|postgres")
     sqlite, postgres = kinds.add_parser("sqlite"), kinds.add_parser("postgres")
-    sqlite.add_argument("place", metavar="FILE")
-    postgres.add_argument("place", metavar="CONNECTION")
-    postgres.add_argument("schema", nargs="?", default="public", metavar="SCHEMA")
+    sqlite.add_argument("place", metavar="FILE", help="the database")
+    postgres.add_argument("place", metavar="CONNECTION", help="what `psql -d` takes")
+    postgres.add_argument("schema", nargs="?", default="public", metavar="SCHEMA", help="public if it is left out")
     for one in sqlite, postgres:
         add_options(one)
     given = parser.parse_args(words)
@@ -120,28 +120,29 @@ def add_options(parser: argparse.ArgumentParser) -> None:
     """The options of both databases."""
     add = parser.add_argument
     add("--ids", metavar="CROSSWALK", help="give surrogate keys the numbers of this crosswalk")
-    add("--identity", action="store_true", help="give them the numbers of the database's own identity columns")
+    add("--identity", action="store_true", help="have them be the tables' own numbers")
     gone = parser.add_mutually_exclusive_group()
     gone.add_argument("--keep", dest="gone", action="store_const", const=KEEP, default=KEEP,
-                      help="keep rows that the target no longer has")
-    gone.add_argument("--delete", dest="gone", action="store_const", const=DELETE, help="delete them, if a load wrote "
-                                                                                        "them")
-    gone.add_argument("--mark", metavar="COLUMN", help="set this column in them")
-    add("--keep-referred", action="store_true", help="keep rows to which others refer, though they are to be deleted")
-    add("--key", action="append", default=[], metavar="TABLE=COLUMN,..", help="match the rows of a table by these "
-                                                                              "columns")
+                      help="keep rows that the target no longer has: the default")
+    gone.add_argument("--delete", dest="gone", action="store_const", const=DELETE,
+                      help="delete those that a load wrote")
+    gone.add_argument("--mark", metavar="COLUMN", help="set COLUMN in those that a load wrote")
+    add("--keep-referred", action="store_true",
+        help="keep rows that are to be deleted and to which rows refer that stay")
+    add("--key", action="append", default=[], metavar="TABLE=COLUMN,..",
+        help="match the rows of a table by these columns")
     add("--core", action="store_true", help="take the core")
-    add("--null", metavar="TEXT", help="this text is NULL")
+    add("--null", metavar="TEXT", help="make NULL of this text")
     add("--out", metavar="FOLDER", help="take the files of an exchange that was run before")
     add("--summary", metavar="FILE", help="what that exchange printed")
-    add("--dry-run", action="store_true", help="change nothing, and print what differs")
+    add("--dry-run", action="store_true", help="change nothing, and print what a load would do")
     add("--try", dest="trial", action="store_true", help="a dry run that does the whole load, and takes it back")
-    add("--others", action="store_true", help="rows that no load wrote are no difference")
-    add("--diff", metavar="FILE", help="write all that differs as CSV")
-    add("--adopt", action="store_true", help="rows that no load wrote are the things whose numbers they have")
-    add("--wait", type=int, default=WAIT, metavar="SECONDS", help="wait so long for a lock of somebody else")
-    add("--log", metavar="TABLE", help="add a row to this table")
-    add("--name", default="clio", metavar="NAME", help="the name of these loads")
+    add("--others", action="store_true", help="in a dry run rows that no load wrote are right")
+    add("--diff", metavar="FILE", help="write all differences as CSV")
+    add("--adopt", action="store_true", help="take the rows that the target has as written by a load")
+    add("--wait", type=int, default=WAIT, metavar="SECONDS", help=f"wait so long for a lock of somebody else ({WAIT})")
+    add("--log", metavar="TABLE", help="add a row on the load to this table")
+    add("--name", default="clio", metavar="NAME", help="keep the loads of this name apart from others (clio)")
 
 
 def keys_of(texts: list[str]) -> dict[str, list[str]]:

@@ -9,7 +9,7 @@ Run it in the folder of mapping.clio. The tables of the source are in the schema
 SOURCE.db, which is only read), under the names and with the columns of the mapping; their cells are texts and never
 NULL. The target is made in the schema `target` (the file TARGET.db): its tables, with values as clio writes them, and
 `nulls` and `fold` with what nulls.csv and fold.csv have. Tables that an earlier run made there, or that have just
-these columns, are replaced; others are refused. CONNECTION is what `psql` takes. Clio holds 4,000,000 cells, and a
+these columns, are replaced; others are refused. CONNECTION is what `psql -d` takes. Clio holds 4,000,000 cells, and a
 database holds more.
 
 In plain mode the target is the one that `clio exchange` writes. With --core, rows that other rules cover are left
@@ -19,8 +19,8 @@ printed, and the status is 3. This tool isn't proved.
 
 All that is read of the source is of one state of it, and the target changes at the end in one transaction, or not at
 all; views, indexes and rights on its tables stay. A second run in the same database is refused. Work tables are in a
-schema of the run's own, which is dropped; they take a multiple of the source. --sessions N makes the matches and
-writes by N sessions at once. --verbose prints the statements with their seconds and rows. --explain prints all SQL and
+schema of the run's own, which is dropped; they take a multiple of the source. --sessions N makes matches and
+tables by N sessions at once. --verbose prints each statement with its seconds and rows. --explain prints all SQL, and
 runs none; with --dialect duckdb it is that for DuckDB, which was never run. On a terminal the steps are shown as they
 are done, and about how long the others take.
 
@@ -55,18 +55,19 @@ def asked(words: list[str]) -> argparse.Namespace:
     """What the words ask for."""
     parser = argparse.ArgumentParser(prog=NAME, description="Makes the target of a mapping inside a database.",
                                      epilog="`clio-sql postgres --help` has the options; the manual is man clio-sql.")
-    engines = parser.add_subparsers(dest="engine", required=True)
+    engines = parser.add_subparsers(dest="engine", required=True, metavar="postgres|sqlite")
     postgres, sqlite = engines.add_parser("postgres"), engines.add_parser("sqlite")
     for engine in postgres, sqlite:
         engine.add_argument("--core", action="store_true", help="make a core")
         told = engine.add_mutually_exclusive_group()
-        told.add_argument("--verbose", action="store_true", help="print the statements as they are run")
+        told.add_argument("--verbose", action="store_true", help="print each statement with its seconds and rows")
         told.add_argument("--explain", action="store_true", help="print all SQL, and run none")
     postgres.add_argument("--dialect", choices=sorted(DIALECTS), help="with --explain: the SQL for this engine")
-    postgres.add_argument("--servers", metavar="FILE", help="spread the rows over the servers of a file")
+    postgres.add_argument("--servers", metavar="FILE", help="spread the rows over the servers that FILE names")
     postgres.add_argument("--source", action="store_true", help="with --servers: make the source, empty")
-    postgres.add_argument("--sessions", metavar="N", type=int, default=1, help="work by so many sessions at once")
-    postgres.add_argument("connection", metavar="CONNECTION", nargs="?")
+    postgres.add_argument("--sessions", metavar="N", type=int, default=1,
+                          help="make matches and tables by N sessions at once")
+    postgres.add_argument("connection", metavar="CONNECTION", nargs="?", help="what `psql -d` takes")
     sqlite.add_argument("source_file", metavar="SOURCE.db")
     sqlite.add_argument("target_file", metavar="TARGET.db")
     found = parser.parse_args(words)

@@ -72,8 +72,8 @@ def words_of(words: list[str]) -> argparse.Namespace:
         prog="clio-why", allow_abbrev=False, epilog="The manual is man clio-why.",
         description="Says why a row of the target is there, or what became of a row of the source.")
     parser.add_argument("--not", dest="is_source", action="store_true", help="ask about a row of the source")
-    parser.add_argument("--ids", metavar="CROSSWALK", help="numbers of clio-ids in KEY are those of nulls")
-    parser.add_argument("--core", action="store_true", help="a run of clio-why's own is in core mode")
+    parser.add_argument("--ids", metavar="CROSSWALK", help="KEY can have the numbers that clio-ids gave to nulls")
+    parser.add_argument("--core", action="store_true", help="if clio-why runs clio itself, do so in core mode")
     parser.add_argument("--all", action="store_true", help="print all rows and matches")
     parser.add_argument("--json", action="store_true", help="print JSON")
     parser.add_argument("table", metavar="TABLE")
