@@ -30,6 +30,7 @@ from typing import Any, Protocol
 from homomorphisms import homomorphism
 from clio_tools.databases.postgres import Session, literal
 from clio_tools.mapping.text import Mapping
+from clio_tools.sql import moving
 from clio_tools.sql.determinations import Clash
 from clio_tools.sql.command import exchange
 from clio_tools.sql.postgres import Postgres as Engine
@@ -102,11 +103,11 @@ class OneServer:
 
 
 class SeveralServers(OneServer):
-    """A PostgreSQL database that spreads its tables over others."""
+    """A PostgreSQL database that spreads its tables over others; each seventh time all rows that move count as many."""
 
     def __init__(self, connection: str, lines: list[str]) -> None:
         super().__init__(connection)
-        self.lines = lines
+        self.lines, self.times, self.many = lines, 0, moving.MANY
 
     def make_source(self, tables: list[Any]) -> None:
         engine = Servers(self.connection, self.lines)
@@ -114,6 +115,8 @@ class SeveralServers(OneServer):
         engine.close()
 
     def exchange(self, core: bool) -> None:
+        self.times += 1
+        moving.MANY = self.many if self.times % 7 else 0
         engine = Servers(self.connection, self.lines)
         try:
             exchange(engine, core)

@@ -1,4 +1,4 @@
-"""Measures clio-sql in PostgreSQL: dev/measure-sql [copy | fusion | demo | core | ids].. [SIZE..]
+"""Measures clio-sql in PostgreSQL: dev/measure-sql [copy | fusion | demo | core | ids].. [SIZE..] [--sessions N]
 
 For each job (all if none is named) and each number of rows in the source (100000 if there is none) it makes the
 source in a server of its own in a temporary folder, runs `clio-sql postgres`, SQL by hand for the same (jobs.py) and
@@ -70,8 +70,8 @@ class Run:
 class Measured:
     """A job at a size."""
 
-    def __init__(self, server: Postgres, folder: pathlib.Path, job: Job, rows: int) -> None:
-        self.server, self.folder, self.job, self.rows = server, folder, job, rows
+    def __init__(self, server: Postgres, folder: pathlib.Path, job: Job, rows: int, words: list[str]) -> None:
+        self.server, self.folder, self.job, self.rows, self.words = server, folder, job, rows, words
         shutil.rmtree(folder, ignore_errors=True)
         folder.mkdir()
         (folder / "mapping.clio").write_text(job.text, encoding="utf-8")
@@ -84,7 +84,7 @@ class Measured:
         """The run of clio-sql, and the most gigabytes of disk."""
         disk = Disk(self.server.base)
         disk.start()
-        words = ["postgres", *["--core"] * self.job.core, *self.server.place]
+        words = ["postgres", *["--core"] * self.job.core, *self.words, *self.server.place]
         run = Run([sys.executable, "-B", TOP / "tools/clio-sql", *words], self.folder, self.server)
         disk.ended.set()
         disk.join()
@@ -142,16 +142,18 @@ def measure(measured: Measured, before: tuple[int, float] | None) -> tuple[int, 
 
 def main(words: list[str]) -> None:
     signal.signal(signal.SIGTERM, lambda *_: sys.exit(143))  # so that the server is stopped in any case
+    jobs, for_tool = (words[:words.index("--sessions")], words[words.index("--sessions"):]) if "--sessions" in words \
+        else (words, [])
     with tempfile.TemporaryDirectory() as name:
         top = pathlib.Path(name)
         top.chmod(0o755)
         server = Postgres(top, settings=SETTINGS)
         try:
             print(HEAD + "|---" * 9 + "|", flush=True)
-            for job in [job for job in JOBS if job.name.split(":")[0] in words] or JOBS:
+            for job in [job for job in JOBS if job.name.split(":")[0] in jobs] or JOBS:
                 before = None
-                for rows in [int(word) for word in words if word.isdigit()] or [100_000]:
-                    before = measure(Measured(server, top / "job", job, rows), before)
+                for rows in [int(word) for word in jobs if word.isdigit()] or [100_000]:
+                    before = measure(Measured(server, top / "job", job, rows, for_tool), before)
         finally:
             server.stop()
 

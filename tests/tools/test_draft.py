@@ -174,7 +174,7 @@ class Delimited(Draft):
                      why="has no column for name")
         (self.folder / "in/emp.csv").rename(self.folder / "in/other.csv")
         self.refused("clio-draft", "csv", "in", "--data", ".", "--mapping", "mapping.clio",
-                     why="nothing here becomes it: other")
+                     why="nothing here becomes it: other; a set has the name of its file")
 
     def test_refusals(self) -> None:
         for content, why in [(b"", "no header"), (b"x\n\"open\n1\n", "a quote is never closed"),

@@ -53,7 +53,7 @@ class Notes(Page):
         self.assertEqual((rows[1][:2], rows[2][0], rows[2][2]), (["F2", "Frankfurt"], "F3", "New York"))
         before = (folder / "mapping.clio").read_text()
         self.browser.click("#save")
-        self.browser.until("document.getElementById('status').textContent.startsWith('saved as drawing.clio')")
+        self.until_shown("#status", "saved as drawing.clio: remove mapping.clio, then clio-rules --write makes it anew")
         self.assertEqual((folder / "drawing.clio").read_text(), self.text())
         self.assertEqual((folder / "mapping.clio").read_text(), before)
 
@@ -93,6 +93,33 @@ class Notes(Page):
         self.until_shown("[data-table=country] tbody", "Name 1")
         self.press("#fault", "sale from ..")
         self.until_shown("#inspector", "set sale")
+
+    def test_rows_without_a_line_wait(self) -> None:
+        """A set whose rows were chosen makes none until a line is drawn; the others stay."""
+        self.open(draw_trial.copy_of("flights"))
+        self.caret("t.value.indexOf('set leg')")
+        self.browser.type("set town { name; } ")
+        self.browser.until("document.querySelector('#target [data-key=town] .menu')")
+        self.browser.click('#target [data-key="town"] .menu')
+        self.browser.until("document.querySelector('#inspector .origin select')")
+        self.browser.js("(document.querySelector('#inspector .origin select').value = 'port', 1)")
+        self.press("#inspector .origin", "take it")
+        self.until_shown("#fault", "No line yet: town from port.")
+        self.until_shown("[data-table=leg] tbody", "Frankfurt")
+        self.browser.drag('#source [data-key="port.city"] .port', '#target [data-key="town.name"]')
+        self.browser.until("document.getElementById('fault').hidden")
+        self.until_shown("[data-table=town] tbody", "Frankfurt")
+
+    def test_a_limit_is_said_beside_the_rows(self) -> None:
+        """A mapping without notes of more lines than clio takes: what it draws, and the rows of each set, are there."""
+        folder = draw_trial.copy_of("teams")
+        text = (folder / "mapping.clio").read_text()
+        (folder / "mapping.clio").write_text(text + "line emp.name -> person.name;\n" * 512)
+        self.open(folder)
+        self.until_shown("#fault", "limit: lines 512")
+        self.until_shown("#fault", "Left out: person.")
+        self.until_shown("[data-table=team] tbody", "Bonn")
+        self.assertEqual(self.count('#target [data-key="person.name"].lined'), 1)
 
     def test_a_way_is_offered_where_one_is_missing(self) -> None:
         folder = draw_trial.copy_of("flights")

@@ -19,6 +19,7 @@ PATHS = "[...document.querySelectorAll('#picture-paper path')].map((path) => pat
 IN_PICTURE = """(() => { const p = document.querySelector('#picture-paper [data-line="1"] path:not(.wide)');
 const q = p.getPointAtLength(p.getTotalLength() / 3), r = p.ownerSVGElement.getBoundingClientRect();
 return [q.x + r.x, q.y + r.y] })()"""
+ORDER = "[...document.querySelectorAll('.row.set')].map((row) => row.dataset.set).join(' ')"
 SAY = "(document.getElementById('whole').textContent = '%s', document.getElementById('status').textContent = '%s', 1)"
 PLACE = """(() => { const r = document.querySelector('#target .row').getBoundingClientRect();
 return [r.x, r.y, document.documentElement.scrollWidth] })()"""
@@ -194,6 +195,15 @@ class Drawing(Page):
         self.browser.click_at((place[0], place[1]))
         self.browser.until("clioDraw.model.selection?.kind === 'line' && clioDraw.model.selection.index === 1")
         self.assertFalse(self.browser.js("document.getElementById('picture').open"))
+
+    def test_sets_are_arranged(self) -> None:
+        """They are in an order in which lines don't cross, and in that of the text again."""
+        self.open(draw_trial.copy_of("teams"))
+        self.assertEqual(self.browser.js(ORDER), "emp dept team person")
+        self.browser.click("#arrange")
+        self.browser.until(f"['dept emp team person', 'emp dept person team'].includes({ORDER})")
+        self.browser.click("#arrange")
+        self.browser.until(f"{ORDER} === 'emp dept team person'")
 
 
 class Steady(Page):

@@ -11,7 +11,7 @@ from small_png import small
 from trial import TOP
 
 MOST_BYTES = 60_000
-NAMES = "draw-line", "draw-ways", "draw-why"
+NAMES = "draw-line", "draw-ways", "draw-why", "draw-why-dark"
 FOLDER = os.environ.get("PICTURES", "")
 
 
@@ -23,7 +23,8 @@ class Pictures(Page):
         self.addCleanup(self.browser.size, 1400, 900)
 
     def shot(self, name: str) -> None:
-        """A picture, which is small."""
+        """A picture, which is small; what is warned of comes last."""
+        self.until_shown("#tab-warnings", "(")
         self.browser.js("document.activeElement.blur()")
         path = pathlib.Path(FOLDER, f"{name}.png")
         self.browser.shot(path)
@@ -54,6 +55,9 @@ class Pictures(Page):
         self.browser.until("!document.getElementById('why').hidden")
         self.browser.js("(document.getElementById('status').textContent = '', 1)")
         self.shot("draw-why")
+        self.addCleanup(self.browser.dark, False)
+        self.browser.dark(True)
+        self.shot("draw-why-dark")
 
 
 class Made(unittest.TestCase):

@@ -228,7 +228,8 @@ class Folders(unittest.TestCase):
         read = folder.read()
         before = (path / "mapping.clio").read_bytes()
         text = read.text + "rows team from dept;\n"
-        self.assertEqual(folder.save(text, MAPPING, read.digest, "\n").name, DRAWING)
+        saved = folder.save(text, MAPPING, read.digest, "\n")
+        self.assertEqual((saved.name, saved.in_the_way), (DRAWING, True))
         self.assertEqual((path / "mapping.clio").read_bytes(), before)
         self.assertEqual((folder.read().name, folder.read().text), (DRAWING, text))
         with self.assertRaises(ChangedOnDisk):

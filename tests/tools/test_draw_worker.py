@@ -157,6 +157,43 @@ class Live(unittest.TestCase):
         made = Asked(draw_trial.room()).live(head + "line Countries.Name -> sale.ship_country;\n")
         self.assertIn(["rows sale from Countries"], [[one["title"] for one in each["cures"]] for each in made["aside"]])
 
+    def test_rows_without_a_line_wait(self) -> None:
+        """They make no fault: the others are there, until a line is drawn, and other faults are said as they are."""
+        text = (draw_trial.EXAMPLES / "northwind" / "drawing.clio").read_text()
+        head = text[:text.index("// Each row")] + "rows country from Countries;\nline Countries.Code -> country.code;\n"
+        made = Asked(draw_trial.room()).live(head + "rows party from Customers;\nrows party from Employees;\n")
+        self.assertIsNone(made["fault"])
+        self.assertEqual([(one["set"], one["waits"]) for one in made["aside"][:2]],
+                         [("party", "Customers"), ("party", "Employees")])
+        self.assertEqual({name for name, table in made["tables"].items() if table["count"]}, {"country"})
+        line = "line Customers.Customer_ID -> party.code;\nline \"customer\" -> party.kind from Customers;\n"
+        made = Asked(draw_trial.room()).live(head + "rows party from Shippers;\nrows party from Customers;\n" + line)
+        self.assertEqual([(one["set"], one["waits"]) for one in made["aside"] if one["waits"]], [("party", "Shippers")])
+        self.assertEqual({name for name, table in made["tables"].items() if table["count"]}, {"country", "party"})
+        self.assertEqual([rule["rows"] for rule in made["rules"]], [0, 2])
+        fault = Asked(draw_trial.room()).live(head + "rows party from Customers;\nline Shippers.Phone -> country.name;\n")
+        self.assertIn("no ref leads from Countries to Shippers", fault["fault"]["message"])
+
+    def test_a_limit_of_the_whole_text_leaves_the_sets_their_rows(self) -> None:
+        """If a mapping without notes exceeds one, that is said, with the sets that are too much by themselves; one of
+        the sides alone leaves nothing."""
+        refs = [f"ref (r{number}) -> t{number} (k) optional;" for number in range(9)]
+        text = ("mapping 2;\nsource { set s { id; } set u { k; } }\ntarget { set main { id, "
+                f"{', '.join(f'r{number}' for number in range(9))}; {' '.join(refs)} }}\n"
+                f"{''.join(f'set t{number} {{ k; }} ' for number in range(9))}}}\n")
+        made = Asked(draw_trial.room()).live(text + "line u.k -> t1.k;\nline s.id -> main.id;\n")
+        self.assertIsNone(made["fault"])
+        self.assertEqual(made["limit"]["message"], "limit: variants 256")
+        self.assertEqual([one["set"] for one in made["aside"]], ["main"])
+        self.assertEqual({name: table["count"] for name, table in made["tables"].items() if table["count"]}, {"t1": 3})
+        wide = ", ".join(f"c{number}" for number in range(65))
+        made = Asked(draw_trial.room()).live(text.replace("u { k; }", f"u {{ {wide}; }}"))
+        self.assertEqual((made["fault"]["message"], made["limit"]), ("limit: columns 64", None))
+        lines = "line s.id -> t1.k;\n" * 400 + "line u.k -> t2.k;\n" * 200
+        made = Asked(draw_trial.room()).live(text.replace("t1 (k) optional", "t1 (k)") + lines)
+        self.assertEqual((made["fault"], made["limit"]["message"]), (None, "limit: lines 512"))
+        self.assertEqual((made["tables"]["t1"]["count"], made["tables"]["t2"]["count"]), (3, 3))
+
     def test_a_clash_in_a_set_without_rows_has_its_edit(self) -> None:
         folder = draw_trial.copy_of("teams")
         with open(folder / "dept.csv", "a", encoding="utf-8") as file:

@@ -85,7 +85,7 @@ REFUSED = [  # the end of the drawing, what is said, and the word that is shown
     (ROWS + "line ord.nix -> sale.who;", "ord has no column nix", "nix"),
     (ROWS + "line ord.note -> sale.nix;", "sale has no column nix", "nix"),
     ("rows bare from ord;\nline ord.no -> bare.no;\nline customer.cname -> bare.who by buyer;",
-     "bare has no key that lines give", "who"),
+     "are one: give set bare a key of columns that lines fill, or write `with buyer`", "who"),
     ("rows bare from ord with buyer;\nline ord.no -> bare.no;\nline customer.cname -> bare.who by payer;",
      "write `with payer`", "who"),
     ("rows sale from nix;", "the source has no set nix", "nix"),
@@ -105,7 +105,10 @@ REFUSED = [  # the end of the drawing, what is said, and the word that is shown
      "sale.client could lead to client in several ways: say which, "
      "line customer -> sale.client by buyer; line customer -> sale.client by payer;", "ord"),
     (ROWS + "rows client from customer;\nline customer.land -> client.land;\nline customer -> sale.client by buyer;",
-     "have no key that lines give", "client"),
+     "have no key that lines give: each row would make a client of its own. Fill a key of client in every row, by "
+     "lines to cname", "client"),
+    ("rows client from ord;\nline ord.no -> client.land;\nline customer.cname -> client.cid by buyer;",
+     "are one: fill a key of client in every row, by lines to cname, or write `with buyer`", "cid"),
     (ROWS + 'line "x" -> sale.kind where note ~ "x";', "there are no comparisons but `=`", "~"),
     (ROWS + 'line "x" -> sale.kind where note = "x" or note = "y";', "there is no `or`", "or"),
     (ROWS + 'line "x" -> sale.kind where nota = "x";', "ord has no column nota", "nota"),

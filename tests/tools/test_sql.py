@@ -19,6 +19,7 @@ from clio_tools.csv import read_table, write_table
 from clio_tools.program import Refused
 from clio_tools.sql.command import rounded
 from clio_tools.sql.forecast import Forecast
+from clio_tools.sql.joining import FEW, Join
 from clio_tools.sql.script import Script
 from clio_tools.sql.server import reached, sign
 from covers import Covers, CoveredPlaces
@@ -330,6 +331,47 @@ class SameFile(Trial):
         self.assertEqual([line for line in kept if " ~ " not in line],
                          [line for line in changed if "regexp_full_match" not in line])
         self.refused("clio-sql", "postgres", "--dialect", "duckdb", why="--dialect goes with --explain alone")
+
+
+class Joins(unittest.TestCase):
+    """Premises of many tables, in the order in which they are joined."""
+
+    def text(self, count: int, equal: list[tuple[int, int]], chance: random.Random) -> str:
+        """A premise as a script has it; each pair of tables is compared in some columns."""
+        tables = ", ".join(f'source."t{chance.randrange(4)}" AS a{number}' for number in range(count))
+        tests = " AND ".join(f'a{one}."c{chance.randrange(3)}" = a{other}."c{chance.randrange(3)}"'
+                             for one, other in equal)
+        return tables + " WHERE " * bool(tests) + tests
+
+    def test_the_order_changes_nothing(self) -> None:
+        chance = random.Random("joins")
+        with contextlib.closing(sqlite3.connect(":memory:")) as base:
+            base.execute("ATTACH ':memory:' AS source")
+            for number in range(4):
+                base.execute(f"CREATE TABLE source.t{number} (c0 TEXT, c1 TEXT, c2 TEXT)")
+                base.executemany(f"INSERT INTO source.t{number} VALUES (?, ?, ?)",
+                                 [[str(chance.randrange(3)) for _ in range(3)] for _ in range(2)])
+            found = 0
+            for _ in range(60):
+                count = chance.randrange(1, FEW + 5)
+                equal = [(chance.randrange(count), chance.randrange(count)) for _ in range(chance.randrange(count + 2))]
+                text = self.text(count, equal, chance)
+                join = Join(text)
+                listed = ", ".join(f'a{number}."c{place}"' for number in range(count) for place in range(3))
+                ordered = join.text({alias: f'source."{name}"' for alias, name in join.tables.items()})
+                self.assertEqual(" JOIN " in ordered, count > FEW)
+                self.assertEqual(sorted(part for ordered in join.parts() for part in ordered), sorted(join.tables))
+                one, other = (sorted(base.execute(f"SELECT {listed} FROM {source}")) for source in (text, ordered))
+                self.assertEqual(one, other, text)
+                found += bool(one)
+            self.assertGreater(found, 20)
+
+    def test_each_after_one_that_it_is_compared_with(self) -> None:
+        chain = [(number, number + 1) for number in range(8)]
+        text = self.text(12, [*chain[4:], *chain[:4], (9, 11)], random.Random("chain"))
+        self.assertEqual([*Join(text).parts()], [[f"a{number}" for number in range(9)], ["a9", "a11"], ["a10"]])
+        join = Join(text)
+        self.assertEqual(join.text(join.tables).count(" CROSS JOIN "), 2)
 
 
 class Told(Trial):

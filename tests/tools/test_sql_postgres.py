@@ -1,11 +1,17 @@
 """clio-sql in PostgreSQL: what it leaves alone, what it leaves behind, and how it ends if something goes wrong."""
 import contextlib
+import functools
+import io
 import os
+import pathlib
+import shutil
 import signal
 import subprocess
 import sys
+import threading
 import time
 import unittest
+import unittest.mock
 from typing import IO
 
 from server import started
@@ -14,6 +20,12 @@ from trial import MODES, PROGRAM, TOOLS, Trial
 
 from clio_tools.csv import read_table
 from clio_tools.databases.postgres import Session
+from clio_tools.program import Refused
+from clio_tools.sql import fetching, moving
+from clio_tools.sql.command import exchange
+from clio_tools.sql.postgres import Postgres as Engine
+from clio_tools.sql.servers import Servers
+from clio_tools.sql.session import Session as Logged
 
 TWO = """mapping 1;
 source { set a { k, x; } set b { k, y; } }
@@ -246,6 +258,94 @@ class Interrupted(Server):
             self.session.run("DELETE FROM source.b WHERE k LIKE 'more%'")
 
 
+class Sessions(Server):
+    """Several sessions at once."""
+
+    def setUp(self) -> None:
+        super().setUp()
+        self.engine = Engine(self.place, 2)
+        self.addCleanup(self.engine.close)
+
+    def test_what_does_not_meet_is_done_side_by_side(self) -> None:
+        both = threading.Barrier(2)
+
+        def work() -> int:
+            both.wait(60)  # which nobody passes alone
+            self.assertEqual(self.engine.side_by_side([lambda: 1, lambda: 2]), [1, 2])
+            return int(self.engine.rows("SELECT pg_backend_pid()", [])[0][0])
+
+        self.assertEqual(len(set(self.engine.side_by_side([work, work]))), 2)
+
+    def test_the_first_that_fails_is_told(self) -> None:
+        begun: list[int] = []
+        both = threading.Barrier(2)
+
+        def work(number: int) -> None:
+            begun.append(number)
+            if number < 2:
+                both.wait(60)
+                time.sleep(1 - number)  # the second one fails first
+                raise Refused(f"work {number}")
+
+        works = [functools.partial(work, number) for number in range(9)]
+        self.assertRaisesRegex(Refused, "work 0", self.engine.side_by_side, works)
+        self.assertEqual(sorted(begun), [0, 1])
+
+    def test_clashes_side_by_side(self) -> None:
+        self.engine.close()
+        self.file("mapping.clio", TWO.replace("u { x, z; }", "u { x, z; key (x); }").replace("u(x, q)", "u(x, k)"))
+        self.made("--sessions", "2")
+        self.session.run("INSERT INTO source.a VALUES ('3', 'one')")
+        status, out, said = self.tool("clio-sql", "postgres", "--sessions", "2", self.place)
+        self.assertEqual((status, out), (3, ""))
+        self.assertRegex(said, r'^clash: table u, key \(x\): "1" and "3" in column z\n$')
+
+
+class Joined(Server):
+    """A rule of many tables."""
+
+    def test_many_tables(self) -> None:
+        numbers = range(40)
+        sets = "".join(f"set t{one} {{ k{one}, v{one}, n{one}; }}\n" for one in numbers)
+        atoms = ", ".join(f"t{one}(k{one}, v{one}, k{one + 1})" for one in numbers)
+        listed = ", ".join(f"v{one}" for one in numbers)
+        self.file("mapping.clio", f"mapping 1;\nsource {{ {sets} }}\ntarget {{ set u {{ {listed}, w; }} }}\n"
+                                  f"rule {atoms} -> u({listed}, more);\n")
+        for one in numbers:
+            self.session.run(f"CREATE TABLE source.t{one} AS SELECT i::text AS k{one}, 'v' || i AS v{one},"
+                             f" ((i + 1) % 20)::text AS n{one} FROM generate_series(0, {19 + one % 3}) AS i")
+        began = time.monotonic()
+        self.assertEqual(self.made()[0], f"u 20\nnulls {20 * len(numbers)}\nfold 0\n")
+        self.assertLess(time.monotonic() - began, 60)
+        rows = self.session.rows("SELECT * FROM target.u ORDER BY w COLLATE \"C\"")
+        wanted = sorted([f"v{(start + one) % 20}" for one in numbers] for start in range(20))
+        self.assertEqual(sorted(list(row[:-1]) for row in rows), wanted)
+
+    def test_the_order_is_taken_for_many_alone(self) -> None:
+        session = Logged(self.place)
+        self.addCleanup(session.close)
+        joins = " JOIN ".join(f"source.a AS a{one} ON true" if one else "source.a AS a0" for one in range(8))
+        limit = "SELECT setting FROM pg_settings WHERE name = 'join_collapse_limit'"
+        for count, wanted in (7, "8"), (8, "1"):
+            joins = " JOIN ".join(["source.a AS a0", *(f"source.a AS a{one} ON true" for one in range(1, count))])
+            query = f"{limit} AND EXISTS (SELECT 1 FROM {joins})"
+            self.assertEqual(session.values(query), [(wanted,)])
+            self.assertEqual(session.values(limit), [("8",)])
+
+
+SLEEPING = """import sys
+from clio_tools.sql import command, fetching, moving
+sys.argv[0], moving.MANY = 'clio-sql', 0
+fetching.Fetched.statement = property(
+    lambda self: f'COPY (SELECT q.* FROM ({self.query}) AS q, pg_sleep(300)) TO STDOUT (FORMAT binary)')
+command.main()
+"""
+STAND_IN = """#!/bin/sh
+# psql, but that it {what}
+{before}exec "{psql}" "$@"{after}
+"""
+
+
 class Several(Server):
     """Three databases, as if each were a server of its own, and one that is asked."""
     NAMES = "asked", "part0", "part1", "part2"
@@ -317,6 +417,104 @@ class Several(Server):
                 self.assertEqual(self.schemas(), [])
         self.made("--servers", "servers.txt")  # which drops what the lost server kept
         self.assertEqual((self.target(), self.schemas()), (before, []))
+
+    def exchanged(self, core: bool = False, many: int = 0) -> str:
+        """Runs clio-sql here, with so many rows as many; what it prints with --verbose."""
+        said: list[str] = []
+        before = os.getcwd()
+        os.chdir(self.folder)
+        try:
+            lines = (self.folder / "servers.txt").read_text().splitlines()
+            with unittest.mock.patch.object(moving, "MANY", many), contextlib.redirect_stdout(io.StringIO()), \
+                    contextlib.redirect_stderr(io.StringIO()):
+                engine = Servers(self.place, lines, lambda sql, seconds, rows: said.append(sql))
+                try:
+                    exchange(engine, core)
+                finally:
+                    engine.close()
+        finally:
+            os.chdir(before)
+        return "\n".join(said)
+
+    def put_psql(self, what: str, before: str = "", after: str = "") -> None:
+        """Puts a stand-in for psql on the path."""
+        psql = shutil.which("psql", path=os.environ["PATH"].split(":", 1)[1])
+        path = self.file("psql", STAND_IN.format(what=what, before=before, psql=psql, after=after))
+        path.chmod(0o755)
+
+    def test_rows_fetched_by_psql(self) -> None:
+        for core in False, True:
+            with unittest.mock.patch.object(fetching.Fetched, "logged", autospec=True,
+                                            side_effect=fetching.Fetched.logged) as logged:
+                said = self.exchanged(core)
+            self.assertGreater(logged.call_count, 20)
+            self.assertEqual(self.target(), self.written(*["--core"] * core))
+            self.assertEqual(self.schemas(), [])
+            self.assertIn("TO STDOUT (FORMAT binary)", said)
+            self.assertRegex(said, "COPY came[0-9]+ FROM STDIN \\(FORMAT binary\\)")
+
+    def test_texts_that_say_where_ranges_end(self) -> None:
+        for text in "'; \\q\n\\.\n{0}", ":x :'x' $$ \\' {0}", "\\\\{0}\r\t\"é\u2028", "--{0}/*":
+            rows = [[text.format(number), text.format(number % 7), "d1"] for number in range(30)]
+            self.session.copy_rows_in("source.emp", rows)
+        self.exchanged()
+        fetched = self.target()
+        self.assertEqual(len(fetched[list(LISTED).index("staff")]), 160)
+        self.exchanged(many=1000)
+        self.assertEqual(self.target(), fetched)
+
+    def test_rows_without_psql(self) -> None:
+        with unittest.mock.patch.object(fetching, "can_fetch", lambda session: False):
+            self.exchanged()
+        self.assertEqual(self.target(), self.written())
+        self.put_psql("reaches no server", before='echo "psql: error: no server" >&2; exit 2\n')
+        self.exchanged()
+        self.assertEqual(self.target(), self.written())
+
+    def test_psql_that_fails_leaves_the_target(self) -> None:
+        self.made("--servers", "servers.txt")
+        before = self.target()
+        what = 'echo "psql:<stdin>:4: ERROR:  53100: could not extend file" >&2; exit 3'
+        self.put_psql("fails amid the rows", after=f" | head -c 30\n{what}")
+        why = "the disk of the server is full: PostgreSQL: could not extend file; the target is as it was"
+        self.assertRaisesRegex(Refused, why, self.exchanged)
+        self.put_psql("ends amid the rows", after=" | head -c 30")
+        self.assertRaisesRegex(Refused, "; the target is as it was", self.exchanged)
+        self.assertEqual((self.target(), self.schemas()), (before, []))
+
+    def test_interrupted_while_psql_fetches(self) -> None:
+        self.made("--servers", "servers.txt")
+        before = self.target()
+        self.file("many.py", SLEEPING)
+        command = [sys.executable, "-B", "many.py", "postgres", "--servers", "servers.txt", self.place]
+        asleep = ("SELECT {}EXISTS (SELECT 1 FROM pg_stat_activity WHERE application_name = 'psql' AND state = 'active'"
+                  " AND query LIKE '%pg_sleep%')")
+        for number, status in (signal.SIGINT, 130), (signal.SIGTERM, 143):
+            run = subprocess.Popen(command, cwd=self.folder, stdout=subprocess.DEVNULL, stderr=subprocess.PIPE,
+                                   text=True, env={**os.environ, "PYTHONPATH": str(TOOLS)},
+                                   preexec_fn=lambda: signal.signal(signal.SIGINT, signal.SIG_DFL))
+            self.addCleanup(said_by(run).close)
+            self.addCleanup(run.kill)
+            self.wait_until(asleep.format(""))
+            run.send_signal(number)
+            self.assertEqual(run.wait(60), status, said_by(run).read())
+            self.wait_until(asleep.format("NOT "))
+            self.assertEqual((self.target(), self.schemas()), (before, []))
+
+    def test_psql_has_no_secret_in_its_words(self) -> None:
+        session = Logged(f"{self.place} password=TOPSECRET")
+        self.addCleanup(session.close)
+        self.assertNotIn("SECRET", fetching.reached_again(session))
+        self.assertEqual(fetching.environment(session)["PGPASSWORD"], "TOPSECRET")
+        again = Session(fetching.reached_again(session))
+        self.addCleanup(again.close)
+        name = "SELECT current_database() || current_user"
+        self.assertEqual(again.value(name), session.value(name))
+        with contextlib.closing(fetching.Fetched(session, "", "SELECT pg_sleep(300)")) as fetched:
+            words = pathlib.Path(f"/proc/{fetched.process.pid}/cmdline").read_text()
+        self.assertNotIn("SECRET", words)
+        self.assertNotIn("pg_sleep", words)
+        self.assertNotEqual(fetched.process.returncode, None)
 
     def interrupt(self, run: subprocess.Popen[str]) -> None:
         """As Ctrl-C does."""

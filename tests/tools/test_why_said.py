@@ -330,6 +330,10 @@ rule sale(i, b, n) -> orders(i, n, c), customer(c, b), visit(v, c), loose(l, n);
         self.assertEqual(self.tool("clio-why", "customer", "1")[0], 1)
         self.assertEqual(self.tool("clio-why", "--ids", "ids.db", "customer", "999")[0], 1)
         self.refused("clio-why", "--ids", "sale.csv", "customer", "1", why="sale.csv")
+        self.clio("exchange")
+        self.file("sale.csv", "id,buyer,note\n4,eve,\n1,zoe,a\n")  # as clio-load would read it, which runs clio itself
+        self.assertIn('buyer = "eve"', self.printed("clio-why", "--ids", "ids.db", "customer", "cname=eve"))
+        self.refused("clio-why", "customer", "cname=eve", why="out is not of these files")
 
 
 if __name__ == "__main__":

@@ -246,13 +246,7 @@ class Session:
                 raise why from None
         return cursor.rowcount
 
-    def hand_over(self, query: str, other: Session, table: str) -> int:
-        """Copies the rows of a query into a table of another session; answers their number. The bytes are handed on as
-        they come."""
-        with contextlib.closing(self._sent(f"COPY ({query}) TO STDOUT (FORMAT binary)")) as pieces:
-            return other.copy_in(table, pieces, "FORMAT binary")
-
-    def _sent(self, statement: str) -> Generator[bytes, None, None]:
+    def sent(self, statement: str) -> Generator[bytes, None, None]:
         """What a COPY gives, in pieces: without psycopg's own reading, which takes twice as long."""
         link, errors, failed = self.connection.pgconn, library().errors, library().Error
         with self._told():

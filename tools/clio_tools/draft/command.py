@@ -128,10 +128,11 @@ def wanted_sets(base: Base, side: Side, mapping: str | None) -> list[Wanted]:
         sets = read_sets(pathlib.Path(mapping).read_text(encoding="utf-8", errors="replace"))["source"]
     except ValueError as error:
         raise Refused(f"{mapping}: {error}") from None
+    hint = "; a set has the name of its file" if isinstance(base, (delimited.Base, document.Base)) else ""
     wanted: list[Wanted] = []
     for one in sets:
         if one.parent is None:
-            table = find_set(side, one.name)
+            table = find_set(side, one.name, hint)
             there = [column.word for column in table.said]
             missing = [column for column in one.declared if column not in there]
             if missing and not isinstance(base, document.Base):

@@ -196,10 +196,10 @@ class Side:
         return counts
 
 
-def find_set(side: Side, name: str) -> Table:
-    """The root table that became a set of this name."""
+def find_set(side: Side, name: str, hint: str = "") -> Table:
+    """The root table that became a set of this name; a hint ends what is said if there is none."""
     for table in side.said:
         if table.word == name:
             return table
     there = ", ".join(table.word for table in side.said)[:300] or "there is no table"
-    raise Refused(f"the mapping has a set {name}, and nothing here becomes it: {there}")
+    raise Refused(f"the mapping has a set {name}, and nothing here becomes it: {there}{hint}")

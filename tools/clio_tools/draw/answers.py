@@ -112,7 +112,7 @@ class Answers:
                 return {"error": str(why)}
             except OSError as why:
                 return {"error": f"{name}: {why.strerror}"}
-        return {"digest": saved.digest, "name": saved.name}
+        return {"digest": saved.digest, "name": saved.name, "in_the_way": saved.in_the_way}
 
     def live(self, text: str, core: bool, rows: int, whole: bool) -> Data:
         """What clio makes of a text: of large files on their first rows, or on the whole of them."""

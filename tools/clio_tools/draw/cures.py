@@ -4,7 +4,7 @@ from collections.abc import Iterator, Sequence
 
 from ..explain.pieces import Warned
 from ..mapping import tree
-from ..mapping.cures import By, Cure, Key, LineBy, Lookup, NoRef, Optional, RowsFrom, With
+from ..mapping.cures import By, Cure, Key, LineBy, Lookup, NoLine, NoRef, Optional, RowsFrom, With
 from ..mapping.places import Fault
 from ..rules.model import Remark
 from ..why.data import Miss
@@ -56,7 +56,7 @@ def _edits(cure: Cure, at: int, outline: Outline) -> Iterator[Data]:
             yield _titled(f"key ({', '.join(columns)}) of {cure.target}",
                           {"do": "add_clause", "side": "target", "set_name": cure.target,
                            "clause": {"kind": "key", "columns": columns}})
-    else:
+    elif not isinstance(cure, NoLine):
         yield from _of_refs(cure, outline)
 
 

@@ -3,6 +3,7 @@ from collections.abc import Iterable, Iterator
 
 from ..explain.endings import explanation
 from ..explain.pieces import Mark, Piece, RowLine, first_lines
+from ..mapping.cures import NoLine
 from ..mapping.meaning import Unread, read_mapping
 from ..mapping.places import Fault, Text
 from ..program import ending
@@ -77,10 +78,13 @@ def _explained(status: int, message: str, words: list[str]) -> Iterator[Piece]:
 
 
 def aside(faults: tuple[Fault, ...], content: bytes) -> list[Data]:
-    """The sets without `rows` that are left out, each with what is said of it, and with its edits."""
+    """The sets that are left out: without `rows`, each with what is said of it, and with its edits; or of which the
+    rows from a source set wait for a line."""
     shown, outline = Shown(content, {}), Outline(content)
-    return [{"set": content[one.start:one.end].decode(), "says": one.said, "cures": of_fault(one, outline),
-             **shown.place(one.start, one.end)} for one in faults]
+    waiting = {one: cure.source for one in faults for cure in one.cures if isinstance(cure, NoLine)}
+    return [{"set": content[one.start:one.end].decode(), "says": one.said, "waits": waiting.get(one),
+             "cures": [] if one in waiting else of_fault(one, outline), **shown.place(one.start, one.end)}
+            for one in faults]
 
 
 def of_drawing(faults: tuple[Fault, ...], content: bytes) -> Data:

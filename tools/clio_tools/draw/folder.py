@@ -7,6 +7,7 @@ import stat
 from dataclasses import dataclass
 
 from ..program import Refused
+from ..rules.printed import is_as_printed
 from ..safe_files import Fresh
 from .outline import Outline
 
@@ -41,10 +42,12 @@ class Read:
 
 @dataclass(frozen=True)
 class Saved:
-    """Where a text was written, and the digest of its file."""
+    """Where a text was written, the digest of its file, and whether a mapping.clio is in the way of the one that
+    clio-rules prints of a drawing."""
 
     name: str
     digest: str
+    in_the_way: bool = False
 
 
 def digest_of(content: bytes | None) -> str:
@@ -113,7 +116,15 @@ class Folder:
         if path.is_symlink():
             raise CannotSave(f"{name} is a link to another file: save it where it is")
         self._replace(path, content, seen)
-        return Saved(name, digest_of(content))
+        return Saved(name, digest_of(content), name == DRAWING and self._is_own(MAPPING))
+
+    def _is_own(self, name: str) -> bool:
+        """Whether a mapping is there that clio-rules hasn't printed, and so doesn't replace."""
+        try:
+            content = self.content(name)
+        except CannotRead:
+            return True
+        return content is not None and is_as_printed(content.decode("utf-8", "replace")) is None
 
     def take(self, drafted: pathlib.Path) -> list[str]:
         """Copies the files of a draft into the folder; one that is there is not replaced."""

@@ -25,6 +25,7 @@ from .words import in_words
 
 CLASH, ROWS = 3, 5  # statuses that clio ends with
 SHOWN = 100  # rows of each table that are passed on at once
+OF_ALL_SETS = tuple(f"limit: {count} " for count in ("lines", "variants", "occurrences", "ways", "candidates", "rules"))
 CELLS = 12_000  # so many cells are passed on at once of all tables
 
 
@@ -66,20 +67,10 @@ class Live:
         self.mapping = self.reasons = None
         self.number += 1
         made: Data = {"run": self.number, "rules": None, "fault": None, "stopped": None, "tables": None, "sources": {},
-                      "drawing": False, "remarks": [], "aside": [], "whole": rows is None}
-        self.meant = meant(self.content)
-        made["drawing"] = self.meant.is_drawing
-        if self.meant.faults:
-            made["fault"] = faults.of_drawing(self.meant.faults, self.content)
-            return made
-        pathlib.Path("mapping.clio").write_bytes(self.meant.content)
+                      "drawing": False, "remarks": [], "aside": [], "limit": None, "whole": rows is None}
         shutil.rmtree("out", ignore_errors=True)
-        if self.meant.aside:
-            made["aside"] = faults.aside(self.meant.aside, self.content)
-        if self.meant.remarks:
-            outline = Outline(self.content)
-            made["remarks"] = [{"lines": [{"text": one.said}], "cures": of_remark(one, outline)}
-                               for one in self.meant.remarks]
+        if not self._mean(meant(self.content), made):
+            return made
         try:
             if self._show(made):
                 self._exchange(made, rows)
@@ -88,14 +79,45 @@ class Live:
         made["seconds"] = time.monotonic() - began
         return made
 
-    def _show(self, made: Data) -> bool:
-        """The rules of the text; or its fault."""
+    def _mean(self, taken: Meant, made: Data) -> bool:
+        """The mapping for clio, with what is said of it; or the faults of the drawing."""
+        self.meant = taken
+        made["drawing"] = taken.is_drawing
+        if taken.faults:
+            made["fault"] = faults.of_drawing(taken.faults, self.content)
+            return False
+        pathlib.Path("mapping.clio").write_bytes(taken.content)
+        if taken.aside:
+            made["aside"] = faults.aside(taken.aside, self.content)
+        if taken.remarks:
+            outline = Outline(self.content)
+            made["remarks"] = [{"lines": [{"text": one.said}], "cures": of_remark(one, outline)}
+                               for one in taken.remarks]
+        return True
+
+    def _shown_rules(self, made: Data) -> bytes | None:
+        """What clio shows; or its refusal. If a mapping without notes exceeds a limit, that is said, and its sets have
+        the rows that each has by itself, as in a drawing."""
         words = ["show", *self._mode()]
         ended = self.runner.run(*words)
-        if ended.status != 0:
-            made["fault"] = self._fault(ended, words)
+        if ended.status == 0:
+            return ended.printed
+        fault = self._fault(ended, words)
+        if not self.meant.is_drawing and ended.message.startswith(OF_ALL_SETS) \
+                and self._mean(meant(self.content, set_by_set=True), made):
+            ended = self.runner.run(*words)
+            if ended.status == 0:
+                made["limit"] = fault
+                return ended.printed
+        made["fault"] = fault
+        return None
+
+    def _show(self, made: Data) -> bool:
+        """The rules of the text; or its fault."""
+        printed = self._shown_rules(made)
+        if printed is None:
             return False
-        lines = [line for line in ended.printed.split(b"\n") if line.startswith(b"rule ")]
+        lines = [line for line in printed.split(b"\n") if line.startswith(b"rule ")]
         self.printed = [line.decode() for line in lines]
         content = self.meant.content
         self.written = read_mapping(content)
@@ -165,8 +187,9 @@ class Live:
         return self.rows(table, start)
 
     def warnings(self) -> Data:
-        """What clio-explain warns of: after the rows, since it takes longer than they do."""
-        if self.mapping is None or self.written is None:
+        """What clio-explain warns of: after the rows, since it takes longer than they do. Before anything is drawn it
+        would warn of each set."""
+        if self.mapping is None or self.written is None or not self.printed:
             return {"warnings": []}
         traps = KnownTraps(self.mapping, self.printed, self.written)
         outline, shown = Outline(self.content), self._shown()

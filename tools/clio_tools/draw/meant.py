@@ -1,7 +1,10 @@
 """The mapping that a text means: a mapping text is itself, and of a drawing it is what clio-rules prints."""
+import re
+from collections.abc import Container
 from dataclasses import dataclass, field, replace
 
 from ..mapping import tree
+from ..mapping.cures import NoLine
 from ..mapping.meaning import Mapping, mapping_of_tree
 from ..mapping.parser import parse
 from ..mapping.places import Fault
@@ -34,7 +37,7 @@ class Meant:
     plain: int = 0  # so many rules come of lines without notes, before those of the notes
     behind: tuple[Behind, ...] = ()
     remarks: tuple[Remark, ...] = ()
-    aside: tuple[Fault, ...] = ()  # of sets without `rows` that are left out
+    aside: tuple[Fault, ...] = ()  # of sets that are left out: without `rows`, or as long as theirs have no line
     faults: tuple[Fault, ...] = ()
 
     def behind_rule(self, number: int) -> Behind | None:
@@ -43,16 +46,17 @@ class Meant:
         return self.behind[place] if 0 <= place < len(self.behind) else None
 
 
-def meant(content: bytes) -> Meant:
+def meant(content: bytes, set_by_set: bool = False) -> Meant:
     """The mapping of a text; what only a drawing can say makes it one, whatever the name of its file is.
 
     A set without `rows` of which lines say more than clio takes is left out, so that the others have their rows: in a
-    target of many refs a first line may lead to that."""
-    if not Outline(content).is_drawing:
+    target of many refs a first line may lead to that. So it is with a mapping that is taken set by set, and with rows
+    for which no line is drawn yet."""
+    if not set_by_set and not Outline(content).is_drawing:
         return Meant(content)
+    aside: list[Fault] = []
     try:
-        drawing = worked_out(content)
-        aside: list[Fault] = []
+        drawing, waiting = _worked_out(content)
         made = Printed(drawing, aside)
     except Faulty as why:
         return Meant(content, True, faults=tuple(why.faults))
@@ -60,14 +64,41 @@ def meant(content: bytes) -> Meant:
         return Meant(content, True, faults=(why.fault,))
     text = made.text.encode()
     plain = len(parse(text).tree.rules) - len(drawing.made) - len(drawing.tree.rules)
-    return Meant(text, True, made.sets.files(), made.sets.links(), plain, tuple(_behind(drawing)),
-                 tuple(drawing.remarks), aside=tuple(aside))
+    return Meant(text, True, made.sets.files(), made.sets.links(), plain, tuple(_behind(drawing, content)),
+                 tuple(drawing.remarks), aside=(*waiting, *aside))
 
 
-def _behind(drawing: Drawing) -> list[Behind]:
-    """What is behind each rule that notes make."""
+def _worked_out(content: bytes) -> tuple[Drawing, list[Fault]]:
+    """The drawing of a text. Rows for which no line is drawn yet wait: they are left out, each with its fault; if there
+    are other faults too, all are as they are without that."""
+    text, waiting, first = content, dict[NoLine, Fault](), None
+    while True:
+        try:
+            drawing = worked_out(text)
+        except Faulty as why:
+            first = first or why
+            new = {cure: fault for fault in why.faults for cure in fault.cures if isinstance(cure, NoLine)}
+            fewer = _without(text, new)
+            if fewer == text:
+                raise first from None
+            waiting, text = {**new, **waiting}, fewer
+            continue
+        drawing.waiting = frozenset(one.target for one in waiting) - {one.target.text for one in drawing.tree.rows}
+        return drawing, list(waiting.values())
+
+
+def _without(content: bytes, waiting: Container[NoLine]) -> bytes:
+    """A text with blanks in the place of some `rows`, so that all else stays in its place."""
+    for one in parse(content, drawing=True).tree.rows:
+        if NoLine(one.target.text, one.source.text) in waiting:
+            content = content[:one.start] + re.sub(rb"[^\n]", b" ", content[one.start:one.end]) + content[one.end:]
+    return content
+
+
+def _behind(drawing: Drawing, content: bytes) -> list[Behind]:
+    """What is behind each rule that notes make, by the numbers that the statements have in the whole text."""
     lines = {one.start: number for number, one in enumerate(drawing.tree.lines)}
-    rows = {one.start: number for number, one in enumerate(drawing.tree.rows)}
+    rows = {one.start: number for number, one in enumerate(parse(content, drawing=True).tree.rows)}
 
     def number_of(note: tree.Rows | None) -> int | None:
         return None if note is None else rows[note.start]

@@ -62,4 +62,11 @@ class NoRef(NamedTuple):
     to: str
 
 
-Cure = By | LineBy | RowsFrom | With | Lookup | Key | Optional | NoRef
+class NoLine(NamedTuple):
+    """The rows of a target set from a source set have no line yet: one is to be drawn."""
+
+    target: str
+    source: str
+
+
+Cure = By | LineBy | RowsFrom | With | Lookup | Key | Optional | NoRef | NoLine

@@ -3,6 +3,7 @@ come at once.
 
 The first fault of a mapping is at the byte that clio names. Versions 1 to 3 are read; a word of a later version is a
 fault, and is read."""
+import functools
 from typing import Callable, NamedTuple, Optional, TypeVar, Union
 
 from .meanings import TESTS
@@ -12,6 +13,7 @@ from .tree import (Argument, Atom, Cell, Dependency, Derived, Item, Key, Line, L
                    SetText, Side, Step, Test,
                    Tree)
 
+KEPT = 4  # so many trees
 DEPTH = 16  # how deep a set can be
 DEEPEST = 128  # how deep sets are read, so that any text can be; what is deeper is left out
 WORD, STRING = "a name", 'a text in "'
@@ -34,8 +36,9 @@ class Parsed(NamedTuple):
     faults: tuple[Fault, ...]
 
 
+@functools.lru_cache(maxsize=KEPT)
 def parse(content: bytes, drawing: bool = False) -> Parsed:
-    """The tree of a mapping text, or of a drawing."""
+    """The tree of a mapping text, or of a drawing. Those of the last texts are kept, since no part ever changes."""
     parser = _Parser(content, drawing)
     tree = parser.whole()
     first: dict[tuple[str, int], Fault] = {}

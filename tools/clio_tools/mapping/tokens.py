@@ -1,16 +1,12 @@
 """The tokens and comments of a mapping text, each with its bytes; what is no token is a fault, and reading goes on
 behind it."""
 import re
-from dataclasses import dataclass
 from typing import NamedTuple, Optional
 
 from .places import Fault
 
-BLANKS = re.compile(rb"[ \t\r\n]+")
-COMMENT = re.compile(rb"//[^\n]*")
-WORD = re.compile(rb"[A-Za-z_][A-Za-z0-9_]*")
-NUMBER = re.compile(rb"[0-9]+")
-MARK = re.compile(rb"->|[{}(),;.=]")
+NEXT = re.compile(rb"[ \t\r\n]*(?:(?P<comment>//[^\n]*)|(?P<word>[A-Za-z_][A-Za-z0-9_]*)|(?P<number>[0-9]+)"
+                  rb"|(?P<mark>->|[{}(),;.=])|)")  # blanks, and what is behind them if it begins as one of these
 CHARACTER = re.compile(rb"[\x20-\x7f]|[\xc2-\xdf][\x80-\xbf]|\xe0[\xa0-\xbf][\x80-\xbf]"
                        rb"|[\xe1-\xec\xee\xef][\x80-\xbf]{2}|\xed[\x80-\x9f][\x80-\xbf]"
                        rb"|\xf0[\x90-\xbf][\x80-\xbf]{2}|[\xf1-\xf3][\x80-\xbf]{3}|\xf4[\x80-\x8f][\x80-\xbf]{2}")
@@ -19,8 +15,7 @@ CUT = re.compile(rb"(?:[\xc2-\xdf]|\xe0(?:[\xa0-\xbf])?|[\xe1-\xec\xee\xef](?:[\
                  rb"|\xf4(?:[\x80-\x8f][\x80-\xbf]?)?)\Z")  # a character that the end of the text cuts
 
 
-@dataclass(frozen=True)
-class Token:
+class Token(NamedTuple):
     """A word, a number, a string, a mark, `bad` for bytes that are none of these, or `end` for the end of the text.
 
     `text` is what is written; of a string it is the value. A string or an arrow that is cut or holds what can't be in
@@ -54,14 +49,18 @@ def lexed(content: bytes) -> Lexed:
     comments: list[Comment] = []
     place = 0
     while place < len(content):
-        blank = BLANKS.match(content, place)
-        comment = COMMENT.match(content, place)
-        if blank:
-            place = blank.end()
-        elif comment:
-            comments.append(Comment(comment[0].decode("utf-8", "replace").rstrip("\r"), place, comment.end()))
-            place = comment.end()
-        else:
+        found = NEXT.match(content, place)
+        kind = found.lastgroup if found else None
+        if found and kind:
+            start, place = found.span(kind)
+            text = content[start:place].decode("utf-8", "replace")
+            if kind == "comment":
+                comments.append(Comment(text.rstrip("\r"), start, place))
+            else:
+                tokens.append(Token(text if kind == "mark" else kind, text, start, place))
+            continue
+        place = found.end() if found else place
+        if place < len(content):
             tokens.append(_token_at(content, place))
             place = tokens[-1].end
     tokens.append(Token("end", "", len(content), len(content)))
@@ -69,16 +68,9 @@ def lexed(content: bytes) -> Lexed:
 
 
 def _token_at(content: bytes, start: int) -> Token:
-    """The token that begins at a byte."""
-    for kind, form in ("word", WORD), ("number", NUMBER):
-        found = form.match(content, start)
-        if found:
-            return Token(kind, found[0].decode(), start, found.end())
+    """The token that begins at a byte and is no word, number or mark."""
     if content[start:start + 1] == b'"':
         return _string_at(content, start)
-    mark = MARK.match(content, start)
-    if mark:
-        return Token(mark[0].decode(), mark[0].decode(), start, mark.end())
     if start + 1 == len(content) and content[start:] in (b"-", b"/"):
         cut = Fault("text ended", len(content), len(content), "the text ends inside a mark")
         return Token("->" if content[start:] == b"-" else "bad", content[start:].decode(), start, start + 1, cut)

@@ -1,9 +1,12 @@
 """What makes a row the same row: K(R), by which other rules know a row, and the cells that say so."""
 from typing import Optional
 
+from ..mapping.cures import NoLine
 from .model import Drawing, Rows, Use
 from .terms import Cell, Need, Open, Row, Var, after
 from .ways import spelled
+
+KEYS_SAID = 3  # so many keys of a set are named
 
 
 def settled(drawing: Drawing, rows: Rows, column: int) -> Optional[Cell]:
@@ -45,6 +48,27 @@ def ways_for_key(drawing: Drawing, rows: Rows) -> list[str]:
             ways = {way for need in found for way in need.ways - rows.base.ways}
             return sorted(spelled(way) for way in ways if all(way == more or way != more[:len(way)] for more in ways))
     return []
+
+
+def how_to_fill(drawing: Drawing, rows: Rows) -> str:
+    """What to write so that every row has a key of its set: lines, or a key if there is none. Keys to which refs lead
+    are often numbers that nobody gives, so they come last."""
+    table = drawing.target_of(rows)
+    led_to = [set(link.referred) for other in drawing.targets for link in other.links if link.table == rows.target]
+    open_columns = [[table.columns[column] for column in key if table.columns[column] not in ("#id", "#up")
+                     and settled(drawing, rows, column) is None and by_use(rows, column) is None]
+                    for key in sorted(table.keys, key=lambda key: set(key) in led_to)]
+    listed = [" and ".join(columns) for columns in open_columns if columns]
+    if not listed:
+        return f"give set {table.name} a key of columns that lines fill"
+    return f"fill a key of {table.name} in every row, by lines to {', or to '.join(listed[:KEYS_SAID])}"
+
+
+def without_line(drawing: Drawing, rows: Rows) -> list[NoLine]:
+    """That rows have no line yet, if it is so."""
+    if rows.note is None or rows.values or rows.wishes:
+        return []
+    return [NoLine(drawing.target_of(rows).name, drawing.source_of(rows).name)]
 
 
 def _need_of(rows: Rows, column: int) -> Optional[Need]:

@@ -43,7 +43,7 @@ def rules_without_notes(drawing: Drawing, aside: Optional[list[Fault]] = None) -
     found: list[Rule] = []
     refused: list[Wrong] = []
     for table in drawing.targets:
-        if table.number not in drawing.noted:
+        if table.number not in drawing.noted and table.name not in drawing.waiting:
             try:
                 found += _rules_of_set(drawing, table)
             except Wrong as why:

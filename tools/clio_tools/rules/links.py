@@ -1,7 +1,7 @@
 """Links of the target: for each the way to the source row of which the row is made that the link leads to."""
 from ..mapping.cures import By, Key, LineBy, Optional, RowsFrom, With
 from ..mapping.schema import Link
-from .keys import key_of, settled, ways_for_key
+from .keys import how_to_fill, key_of, settled, ways_for_key, without_line
 from .model import Drawing, Rows, Use, Wish
 from .terms import NOTHING, Need, of_way
 from .ways import Way, Wrong, spelled, wrong
@@ -112,8 +112,10 @@ def _checked(drawing: Drawing, rows: Rows, use: Use) -> Use:
             raise wrong(at, f"{name} leads to {key}, and what makes two rows of {key} one is not there for each "
                         f"{source}: "
                             f"write rows {key} from {source} with {', '.join(ways)};", With(key, tuple(ways)))
+        fill = how_to_fill(drawing, other)
         raise wrong(at, f"{name} leads to {key}, whose rows from {source} have no key that lines give: each row would "
-                        f"make a {key} of its own. Give set {key} a key of columns that lines fill", Key(key))
+                        f"make a {key} of its own. {fill[0].upper()}{fill[1:]}",
+                    Key(key), *without_line(drawing, other))
     return Use(use.link, use.way, other, use.need | of_way(use.way) | other.base.after(use.way), use.line)
 
 

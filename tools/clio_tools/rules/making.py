@@ -1,7 +1,7 @@
 """The rules of each `rows`: one for each different need beyond its base, the empty one included."""
 from ..mapping import cures, tree
 from ..mapping.schema import Link
-from .keys import by_use, known, linked, settled, ways_for_key
+from .keys import by_use, how_to_fill, known, linked, settled, ways_for_key, without_line
 from .lookups import looked
 from .model import Drawing, Made, Rows, Use, Value
 from .terms import NOTHING, Cell, Need, Open, Row
@@ -44,7 +44,7 @@ def rules_of(drawing: Drawing, rows: Rows) -> list[Made]:
         raise _keyless(drawing, rows, extra, groups[extra])
     if rows.note and not (rows.values or rows.uses or rows.looked or rows.outer):
         raise wrong(rows.note.target, f"no line gives {drawing.target_of(rows).name} a value from "
-                    f"{rows.note.source.text}")
+                    f"{rows.note.source.text}", *without_line(drawing, rows))
     cells, more = known(drawing, rows)
     for use in rows.uses:  # a ref that isn't optional asks for its row in each rule, so each rule says which
         open_columns = not all(column in cells for column in use.link.own)
@@ -106,7 +106,8 @@ def _keyless(drawing: Drawing, rows: Rows, extra: Need, group: Group) -> Wrong:
     at = line.target.column if line else rows.note.target if rows.note else drawing.tree.version_at
     way = max(extra.ways, key=len, default=())
     known_by = ways_for_key(drawing, rows)
-    found: list[cures.Cure] = [cures.With(table.name, tuple(known_by)) if known_by else cures.Key(table.name)]
+    found: list[cures.Cure] = [cures.With(table.name, tuple(known_by))] if known_by else \
+        [cures.Key(table.name), *without_line(drawing, rows)]
     out = ""
     if way and spelled(way) not in known_by:
         out = f", or write `with {spelled(way)}` if rows without one are not meant"
@@ -114,7 +115,7 @@ def _keyless(drawing: Drawing, rows: Rows, extra: Need, group: Group) -> Wrong:
     if way and group.values and not extra.tests:
         out += f", or `lookup {drawing.ways.name(way[0].table)};`"
         found.append(cures.Lookup(drawing.ways.name(way[0].table)))
-    cure = f"write `with {', '.join(known_by)}`, which its key needs" if known_by else f"give set {table.name} a key"
+    cure = f"write `with {', '.join(known_by)}`, which its key needs" if known_by else how_to_fill(drawing, rows)
     return wrong(at, f"{drawing.column(rows, column)} is not there for each {source}, and {table.name} has no key that "
                  f"lines give, by which the row with it and the row without it are one: {cure}{out}", *found)
 

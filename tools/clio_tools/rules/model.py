@@ -104,6 +104,7 @@ class Drawing:
     made: list[Made] = field(default_factory=list)
     faults: list[Fault] = field(default_factory=list)
     remarks: list[Remark] = field(default_factory=list)
+    waiting: frozenset[str] = frozenset()  # sets that make no rows as long as theirs have no line
 
     def remark(self, rows: Rows, said: str, *cures: Cure) -> None:
         """Remarks something of rows."""

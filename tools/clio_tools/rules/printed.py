@@ -24,7 +24,7 @@ class Origin(NamedTuple):
 
 class Printed:
     """The text, the files that it takes, and the rules with the words for each. With `aside` the faults of sets without
-    `rows` are put there, and the text says nothing of these sets."""
+    `rows` are put there, and the text says nothing of these sets, and has rules in place of lines in any case."""
 
     def __init__(self, drawing: Drawing, aside: Optional[list[Fault]] = None) -> None:
         self.drawing, self.sets = drawing, TestSets(drawing.source)
@@ -49,7 +49,8 @@ class Printed:
     def _whole(self) -> str:
         """The whole text, below the line that names the drawing."""
         parsed = self.drawing.tree
-        if not self.drawing.rows and not self.left_out and all(rule.is_plain for rule in parsed.rules):
+        if self.aside is None and not self.drawing.rows and not self.left_out \
+                and all(rule.is_plain for rule in parsed.rules):
             return parsed.content.decode("utf-8")
         many = refs_past_limit(self.drawing, self.left_out)
         return self._head(self.left_out + many) + "\n" + "\n".join(self._items()) + "\n"

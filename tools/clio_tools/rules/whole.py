@@ -52,7 +52,7 @@ def worked_out(content: bytes) -> Drawing:
     for step in steps:
         step(drawing)
         if drawing.faults:
-            raise Faulty(sorted(drawing.faults, key=lambda fault: fault.start))
+            raise Faulty(sorted(dict.fromkeys(drawing.faults), key=lambda fault: fault.start))
     return drawing
 
 

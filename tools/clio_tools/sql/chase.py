@@ -1,11 +1,19 @@
 """What keys and dependencies make equal, one after the other, by queries over whole tables."""
+import functools
 from collections.abc import Sequence
+from typing import NamedTuple
 
 from clio_tools.sql.collapsing import Collapse
 from clio_tools.sql.determinations import Determination, bring_together
 from clio_tools.sql.stars import Part, Stars, part_of
 from clio_tools.sql.tables import NO_NULL, Table
 from clio_tools.sql.work import Home, Work
+
+
+class Ask(NamedTuple):
+    """A determination that is asked, and whether it's a key whose groups share no nulls."""
+    one: Determination
+    is_simple: bool
 
 
 class Chase:
@@ -21,32 +29,30 @@ class Chase:
         """All determinations, each after those that feed it; one is asked again if its left columns have changed."""
         self.waiting = list(self.asked)
         while self.waiting and not (self.work.engine.is_plan and self.rounds >= 2 * len(self.asked)):
-            one = self.next()
-            self.waiting.remove(one)
-            self.rounds += 1
-            if one.is_key and one.is_simple():
-                self.ask_simple(one)
-            else:
-                self.ask(one)
+            asks = [Ask(one, one.is_key and one.is_simple()) for one in self.next()]
+            for ask in asks:
+                self.waiting.remove(ask.one)
+                self.rounds += 1
+            parts = self.work.engine.side_by_side([functools.partial(self.part, ask) for ask in asks])
+            for ask, part in zip(asks, parts):
+                if part:
+                    changed = self.apply(part, ask.one.table if ask.is_simple else None)
+                    self.wait_for(changed, [] if ask.is_simple else [ask.one])
 
-    def next(self) -> Determination:
-        """One that no other feeds, if there is one."""
-        for one in self.waiting:
-            if not any(other.feeds(one) for other in self.waiting if other is not one):
-                return one
-        return self.waiting[0]
+    def next(self) -> list[Determination]:
+        """Some that no other feeds, if there are such, and that don't meet."""
+        free = [one for one in self.waiting
+                if not any(other.feeds(one) for other in self.waiting if other is not one)] or self.waiting[:1]
+        chosen: list[Determination] = []
+        for one in free:
+            if not any(one.meets(other) for other in chosen):
+                chosen.append(one)
+        return chosen
 
-    def ask_simple(self, one: Determination) -> None:
-        """A key whose groups share no nulls: it makes one row of each group at once."""
-        part = Collapse(self.work, one).run()
-        if part:
-            self.wait_for(self.apply(part, one.table), [])
-
-    def ask(self, one: Determination) -> None:
-        """A determination in general: it may have to be asked again."""
-        part = self.pairs(one)
-        if part:
-            self.wait_for(self.apply(part, None), [one])
+    def part(self, ask: Ask) -> Part | None:
+        """What a determination makes equal. A simple one is a key whose groups share no nulls: it makes one row of each
+        group at once. Any other may have to be asked again."""
+        return Collapse(self.work, ask.one).run() if ask.is_simple else self.pairs(ask.one)
 
     def wait_for(self, changed: dict[str, set[int]], again: list[Determination]) -> None:
         """Has those asked again whose left columns have changed."""
@@ -65,9 +71,10 @@ class Chase:
             table.put(self.work.made("t", table.query(distinct=True), table.listed(one.left), f"rows of {table.name}",
                                      is_local=True))
         by = table.listed(one.left)
-        grouped = f"{table.work} AS t{' GROUP BY ' * bool(by)}{', '.join(by)} HAVING {' OR '.join(tests)}"
-        groups = self.work.made("g", f"SELECT {', '.join(by + one.least_and_greatest())} FROM {grouped}", by, what,
-                                is_local=True)
+        query = f"SELECT {', '.join(by + one.least_and_greatest())} FROM {table.work} AS t"
+        grouped = f"{' GROUP BY ' * bool(by)}{', '.join(by)} HAVING {' OR '.join(tests)}"
+        wheres = [f" WHERE {where}" for where in self.work.engine.split(by)] or [""]
+        groups = self.work.made_in_parts("g", [f"{query}{where}{grouped}" for where in wheres], by, what).name
         one.check_clash(self.work, groups)
         queries = pair_queries(one, groups)
         if not queries:
@@ -85,9 +92,8 @@ class Chase:
     def apply(self, part: Part, done: Table | None) -> dict[str, set[int]]:
         """Puts what nulls became into all tables and all earlier parts; answers the columns that may have changed, by
         table."""
-        for earlier in self.parts:
-            if earlier.after & part.before:
-                earlier.follow(self.work, part)
+        works = [functools.partial(earlier.follow, self.work, part) for earlier in self.parts
+                 if earlier.after & part.before]
         self.parts.append(part)
         changed = {}
         for table in self.tables:
@@ -98,7 +104,8 @@ class Chase:
                     for place in places:
                         table.cells[place].heads |= part.after
                 else:
-                    self.replace_in(table, part, places)
+                    works.append(functools.partial(self.replace_in, table, part, places))
+        self.work.engine.side_by_side(works)
         return changed
 
     def replace_in(self, table: Table, part: Part, places: Sequence[int]) -> None:

@@ -1,9 +1,11 @@
 """Keys whose groups share no nulls: one query over a whole table makes one row of each group."""
+from collections.abc import Sequence
+
 from clio_tools.sql.determinations import Determination, bring_together
 from clio_tools.sql.script import Null
 from clio_tools.sql.stars import Part, part_of
 from clio_tools.sql.tables import NO_NULL
-from clio_tools.sql.work import Work
+from clio_tools.sql.work import Parts, Work
 
 
 class Collapse:
@@ -18,25 +20,34 @@ class Collapse:
         table, one = self.table, self.one
         is_at_home = not table.work and bool(one.together)
         bring_together(self.work, one)
-        by = table.listed(one.left)
+        groups = self.grouped()
+        many, two, filled = self.found(groups.name)
+        queries = [self.gone(part, many, two, filled) for part in groups.names]
+        heads = table.all_heads(many + two), any(table.cells[place].texts for place in {*many, *two, *filled})
+        before = table.all_heads([*many, *two, *filled])
+        self.settle(groups.name)
+        if not queries[0]:
+            return None
+        gone = self.work.made_in_parts("gone", queries, ["u"], f"nulls of {table.name} that went").name
+        return part_of(self.work, gone, before, *heads, is_at_home)
+
+    def grouped(self) -> Parts:
+        """The table with one row for each group."""
+        table, one, by = self.table, self.one, self.table.listed(self.one.left)
         grouped = f" GROUP BY {', '.join(by)}" if by else " HAVING count(*) > 0"
         counts = [f"count(n{place}) AS k{place}" for place in self.opens]
-        shown = ", ".join(by + one.least_and_greatest() + counts)
-        groups = self.work.made("g", f"SELECT {shown} FROM ({table.query(distinct=False)}) AS t{grouped}", by,
-                                f"key of {table.name}", is_local=True)
-        many, two, filled = self.found(groups)
+        query = f"SELECT {', '.join(by + one.least_and_greatest() + counts)} FROM ({table.query(distinct=False)}) AS t"
+        wheres = [f" WHERE {where}" for where in self.work.engine.split(by)] or [""]
+        return self.work.made_in_parts("g", [f"{query}{where}{grouped}" for where in wheres], by,
+                                       f"key of {table.name}")
+
+    def gone(self, groups: str, many: Sequence[int], two: Sequence[int], filled: Sequence[int]) -> str:
+        """The query for the nulls of groups that went."""
         queries = [f"SELECT n{place} AS u, {NO_NULL} AS n, c{place} AS c FROM {groups}"
                    f" WHERE c{place} IS NOT NULL AND n{place} = x{place}" for place in filled]
         queries += [query for place in two for query in self.of_two(groups, place)]
         queries += [query for place in many for query in self.of_many(groups, place)]
-        heads = table.all_heads(many + two), any(table.cells[place].texts for place in {*many, *two, *filled})
-        before = table.all_heads([*many, *two, *filled])
-        self.settle(groups)
-        if not queries:
-            return None
-        gone = self.work.made("gone", " UNION ALL ".join(queries), ["u"], f"nulls of {table.name} that went",
-                              is_local=True)
-        return part_of(self.work, gone, before, *heads, is_at_home)
+        return " UNION ALL ".join(queries)
 
     def found(self, groups: str) -> tuple[list[int], list[int], list[int]]:
         """The columns in which some group has more than two nulls, other ones in which some has two, and those in

@@ -19,22 +19,23 @@ printed, and the status is 3. This tool isn't proved.
 
 All that is read of the source is of one state of it, and the target changes at the end in one transaction, or not at
 all; views, indexes and rights on its tables stay. A second run in the same database is refused. Work tables are in a
-schema of the run's own, which is dropped; they take a multiple of the source. --sessions N makes matches and
-tables by N sessions at once. --verbose prints each statement with its seconds and rows. --explain prints all SQL, and
-runs none; with --dialect duckdb it is that for DuckDB, which was never run. On a terminal the steps are shown as they
-are done, and about how long the others take.
+schema of the run's own, which is dropped; they take a multiple of the source. --sessions N makes by N sessions at once
+what doesn't meet: matches, groups of rows under a key, tables. --verbose prints each statement with its seconds and
+rows. --explain prints all SQL, and runs none; with --dialect duckdb it is that for DuckDB, which was never run. On a
+terminal the steps are shown as they are done, and about how long the others take.
 
 With --servers the rows are on several PostgreSQL servers: each line of FILE says how one is reached, as `host=db1
 dbname=parts user=clio`. Each makes its part of each table, and rows that have to meet are copied from one to the other
-through this tool. In the database of CONNECTION each table is a partitioned one whose parts are tables of the servers
-(by the extension postgres_fdw, which the tool sets up); what it asks of all rows, as most of core mode, goes through
-there. With --source the tables of the source are made so, empty, and are then loaded through that database. In the
-databases of the servers the rows are in schemas that begin with clio_. The source may also be in the database of
-CONNECTION itself.
+through this tool, many of them by psql if it is there. In the database of CONNECTION each table is a partitioned one
+whose parts are tables of the servers (by the extension postgres_fdw, which the tool sets up); what it asks of all
+rows, as most of core mode, goes through there. With --source the tables of the source are made so, empty, and are then
+loaded through that database. In the databases of the servers the rows are in schemas that begin with clio_. The source
+may also be in the database of CONNECTION itself.
 """
 import argparse
 import pathlib
 import sys
+import threading
 
 from clio_tools.mapping.text import Mapping
 from clio_tools.program import Refused, harmless, remark, run
@@ -66,7 +67,7 @@ def asked(words: list[str]) -> argparse.Namespace:
     postgres.add_argument("--servers", metavar="FILE", help="spread the rows over the servers that FILE names")
     postgres.add_argument("--source", action="store_true", help="with --servers: make the source, empty")
     postgres.add_argument("--sessions", metavar="N", type=int, default=1,
-                          help="make matches and tables by N sessions at once")
+                          help="make matches, keys and tables by N sessions at once")
     postgres.add_argument("connection", metavar="CONNECTION", nargs="?", help="what `psql -d` takes")
     sqlite.add_argument("source_file", metavar="SOURCE.db")
     sqlite.add_argument("target_file", metavar="TARGET.db")
@@ -92,14 +93,19 @@ class Teller:
     """Tells on a terminal what is done, and with --verbose each statement."""
 
     def __init__(self, verbose: bool) -> None:
-        self.verbose, self.steps = verbose, 0
+        self.verbose, self.steps, self.telling = verbose, 0, threading.Lock()
         self.is_shown = not verbose and sys.stderr.isatty()
+
+    def tell(self, text: str) -> None:
+        """Tells it in one piece, though several sessions have something to tell."""
+        with self.telling:
+            print(harmless(text), file=sys.stderr, flush=True)
 
     def statement(self, sql: str, seconds: float, rows: int) -> None:
         """A statement that was run."""
         if self.verbose:
             counted = f", {rows} rows" if rows >= 0 else ""
-            print(harmless(f"-- {seconds:.2f} s{counted}\n{sql};"), file=sys.stderr, flush=True)
+            self.tell(f"-- {seconds:.2f} s{counted}\n{sql};")
 
     def step(self, what: str, seconds: float, rows: int, left: float | None) -> None:
         """A step that was done."""
@@ -107,8 +113,7 @@ class Teller:
         if self.is_shown:
             counted = f": {rows:,} rows" if rows >= 0 else ""
             more = "" if left is None else f"; about {rounded(left)} left"
-            print(harmless(f"{NAME}: step {self.steps}, {what}{counted}, {seconds:.1f} s{more}"), file=sys.stderr,
-                  flush=True)
+            self.tell(f"{NAME}: step {self.steps}, {what}{counted}, {seconds:.1f} s{more}")
 
 
 def rounded(seconds: float) -> str:

@@ -5,6 +5,9 @@ A match is covered by the first rule, the first way to it, and the first of its 
 script that `clio show --core` prints has the ways in this order, as far as exported columns go; the rest of a way is
 the first that sends each atom of the conclusion to one of the other rule.
 """
+import functools
+from collections.abc import Callable
+
 from clio_tools.program import Refused
 from clio_tools.sql.script import Cell, Cover, Null, Rule, Script
 from clio_tools.sql.stars import Part, followed, part_of
@@ -67,16 +70,18 @@ class Covering:
 
     def part(self) -> Part | None:
         """All rules; what a null became is followed on until it is there."""
-        queries, before, after = [], set(), set()
+        works: list[Callable[[], list[str]]] = []
+        before, after = set[int](), set[int]()
         for rule, covers in self.script.covers.items():
             nulls = [Null(rule, variable) for variable in self.script.rules[rule].existential]
             if nulls:
                 rules = self.script.rules
                 ways = [(cover, WayOf(rules[rule], rules[cover.rule], cover).found()) for cover in covers]
-                queries += self.queries(rule, ways)
+                works.append(functools.partial(self.queries, rule, ways))
                 before |= {self.heads.number[null] for null in nulls}
                 after |= {self.heads.number[Null(cover.rule, cell.number)]
                           for cover, way in ways for cell in way.values() if cell.kind == "y"}
+        queries = [query for found in self.work.engine.side_by_side(works) for query in found]
         if not queries:
             return None
         table = self.work.made("covering", " UNION ALL ".join(queries), ["u"], "nulls of covered matches")

@@ -22,6 +22,11 @@ class Determination:
         """Whether what it makes equal may be in the left columns of another one."""
         return bool(self.table.all_heads(self.right) & other.table.all_heads(other.left))
 
+    def meets(self, other: "Determination") -> bool:
+        """Whether what one makes equal may be in the table of the other one."""
+        return any(one.table.all_heads(one.right) & there.table.all_heads(range(len(there.table.columns)))
+                   for one, there in ((self, other), (other, self))) or self.table is other.table
+
     @property
     def is_key(self) -> bool:
         """Whether it leaves one row in a group."""

@@ -1,6 +1,5 @@
 """The whole exchange on an engine: matches, what keys and dependencies make equal, in core mode what covers and what
 reduces, and the tables."""
-import re
 from collections.abc import Callable, Sequence
 from typing import NamedTuple
 
@@ -9,6 +8,7 @@ from clio_tools.sql.chase import Chase
 from clio_tools.sql.determinations import Determination
 from clio_tools.sql.covering import Covering
 from clio_tools.sql.forecast import MATCHES, PUBLISHING, expected
+from clio_tools.sql.joining import Join
 from clio_tools.sql.reducing import Reducer, Rest
 from clio_tools.sql.rigid import Rigid
 from clio_tools.sql.script import Script
@@ -147,7 +147,9 @@ class Matches:
         match = self.script.matches[rule]
         columns = [f"{self.words.exported(one)}{self.words.by_bytes} AS c{place}"
                    for place, one in enumerate(match.exported)]
-        query = f"SELECT DISTINCT {', '.join(columns) or '0 AS c0'} FROM {read_names(match.source, names)}"
+        join = Join(match.source)
+        relations = {alias: names.get(name, f'source."{name}"') for alias, name in join.tables.items()}
+        query = f"SELECT DISTINCT {', '.join(columns) or '0 AS c0'} FROM {join.text(relations)}"
         if not numbered:
             return query
         order = ", ".join(f"c{place}" for place in range(len(columns))) or "c0"
@@ -167,8 +169,3 @@ class Matches:
             same += [f"m.c{own} = {self.words.text(quoted(text))}" for own, text in cover.literals.items()]
             tests.append(f"NOT EXISTS (SELECT 1 FROM m{cover.rule} AS n{' WHERE ' * bool(same)}{' AND '.join(same)})")
         return f"SELECT * FROM m{rule} AS m WHERE {' AND '.join(tests)}"
-
-
-def read_names(sql: str, names: dict[str, str]) -> str:
-    """The SQL of a join with views in the place of the source tables that they stand for."""
-    return re.sub(r'source\."([^"]+)"', lambda found: names.get(found[1], found[0]), sql)

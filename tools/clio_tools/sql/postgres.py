@@ -3,14 +3,17 @@ transaction or not at all."""
 import functools
 import secrets
 import threading
-from collections.abc import Sequence
+from collections.abc import Callable, Sequence
+from typing import TypeVar
 
 from clio_tools.databases.postgres import literal
 from clio_tools.program import Refused
+from clio_tools.sql.moving import by_hash
 from clio_tools.sql.session import Log, Session, at_once, unlogged
 from clio_tools.sql.words import POSTGRES
 from clio_tools.sql.work import Made, Row, Whole
 
+Answer = TypeVar("Answer")
 LOCK = 0x636C696F  # the number of the lock that a run holds in its database
 WORK = "work tables of a run of clio-sql; they can be dropped when it has ended"
 MADE = "made by clio-sql"
@@ -47,9 +50,9 @@ class Postgres(Whole):
         self.counts: dict[str, int] = {}
         self.refilled: dict[str, bool] = {}  # whether a table that is there keeps its place, as something depends on it
         self.sessions: list[Session] = []
+        self.here = threading.local()  # has the session of a thread, if it isn't the first one
         try:
             self.sessions = [Session(connection, log) for _ in range(sessions)]
-            self.one = self.sessions[0]
             self.lock()
             self.begin()
         except BaseException:
@@ -73,6 +76,12 @@ class Postgres(Whole):
             self.one.made(f"CREATE SCHEMA {name}; COMMENT ON SCHEMA {name} IS {literal(WORK)}")
         for session in self.sessions:
             session.made(f"SET search_path = {self.schema}")
+
+    @property
+    def one(self) -> Session:
+        """The session of this thread."""
+        session: Session = getattr(self.here, "session", self.sessions[0])
+        return session
 
     @property
     def made_in(self) -> str:
@@ -117,25 +126,38 @@ class Postgres(Whole):
         return rows
 
     def together(self, statements: Sequence[str]) -> list[int]:
-        """Runs statements that don't depend on each other, on all sessions at once; answers the rows of each. An
-        interrupt cancels them all."""
-        waiting, rows = list(enumerate(statements))[::-1], [-1] * len(statements)
+        """Runs statements that don't depend on each other, on all sessions at once; answers the rows of each."""
+        return self.side_by_side([functools.partial(self.run, sql) for sql in statements])
+
+    def side_by_side(self, works: Sequence[Callable[[], Answer]]) -> list[Answer]:
+        """What works answer, done by all sessions at once. An interrupt, or one that fails, ends them all; of several
+        that fail the first one is told."""
+        if len(self.sessions) < 2 or len(works) < 2 or hasattr(self.here, "session"):
+            return [work() for work in works]
+        waiting, answers = list(enumerate(works))[::-1], dict[int, Answer]()
+        failed: dict[int, Exception] = {}
         lock = threading.Lock()
 
         def work(session: Session) -> None:
+            self.here.session = session
             while True:
                 with lock:
-                    if not waiting:
+                    if not waiting or failed:
                         return
-                    number, sql = waiting.pop()
+                    number, one = waiting.pop()
                 try:
-                    rows[number] = session.made(sql)
-                except Refused:
-                    waiting.clear()
-                    raise
+                    answers[number] = one()
+                except Exception as error:
+                    failed[number] = error
 
         at_once([functools.partial(work, session) for session in self.sessions], self.sessions)
-        return rows
+        if failed:
+            raise failed[min(failed)]
+        return [answers[number] for number in range(len(works))]
+
+    def split(self, by: Sequence[str]) -> Sequence[str]:
+        count = len(self.sessions)
+        return by_hash([(column, column.startswith("c")) for column in by], count) if by and count > 1 else []
 
     def load(self, name: str, columns: Sequence[str], rows: Sequence[Row]) -> None:
         self.one.made(f"CREATE {self.words.table} {name} ({', '.join(columns)})")

@@ -4,7 +4,8 @@ Every homomorphism of the target into itself keeps constants. If a row is the on
 it in the columns that hold constants or nulls known to be kept, it goes to itself, so its nulls are kept too. What is
 left when no more nulls become known so are rows with open nulls; rows that share an open null are in one block.
 """
-from collections.abc import Iterator, Sequence
+import functools
+from collections.abc import Sequence
 
 from clio_tools.sql.determinations import Determination
 from clio_tools.sql.stars import Stars
@@ -25,7 +26,8 @@ class Rigid:
         before, after = -1, 0
         while self.tables and before < after:
             before = after
-            found = [query for table in self.tables for query in self.kept_of(table)]
+            each = self.work.engine.side_by_side([functools.partial(self.kept_of, table) for table in self.tables])
+            found = [query for queries in each for query in queries]
             if not found:
                 return
             query = " UNION ".join([f"SELECT u FROM {self.known}", *found])
@@ -52,17 +54,18 @@ class Rigid:
         key = key_columns(table, range(len(table.cells)))
         return self.work.made("marked", query, key, f"open nulls of {table.name}")
 
-    def kept_of(self, table: Table) -> Iterator[str]:
+    def kept_of(self, table: Table) -> list[str]:
         """Queries for the open nulls of rows that are the only ones with what is known of them."""
-        name = self.marked(table)
+        name, queries = self.marked(table), []
         for hidden in self.forms(table, name):
             shown = [place for place in range(len(table.columns)) if place not in hidden]
             key = key_columns(table, shown)
             group = f" GROUP BY {', '.join(key)}" if key else ""
             once = f"SELECT {', '.join([*key, 'count(*) AS number'])} FROM {name}{group} HAVING count(*) = 1"
-            for place in hidden:
-                yield (f"SELECT t.o{place} AS u FROM {name} AS t JOIN ({once}) AS o"
-                       f" ON {same_key(table, shown, 't', 'o')} WHERE {self.is_form(table, hidden, 't.')}")
+            queries += [f"SELECT t.o{place} AS u FROM {name} AS t JOIN ({once}) AS o"
+                        f" ON {same_key(table, shown, 't', 'o')} WHERE {self.is_form(table, hidden, 't.')}"
+                        for place in hidden]
+        return queries
 
     def forms(self, table: Table, name: str) -> list[list[int]]:
         """The lists of columns that are open together in some row."""
@@ -79,14 +82,17 @@ class Rigid:
 
     def left(self) -> tuple[int, int]:
         """How many rows have open nulls, and in how many blocks they are."""
-        parts, rows = [], 0
-        for table in self.tables:
-            name, opens = self.marked(table), self.opens(table)
-            rows += self.work.number(f"SELECT count(*) FROM {name} WHERE {' OR '.join(map(is_open, opens))}")
-            least = self.work.words.least_of([f"CASE WHEN {is_open(other)} THEN o{other} END" for other in opens])
-            parts += [f"SELECT o{place} AS u, {least} AS n, {self.work.words.no_text} AS c FROM {name}"
+        each = self.work.engine.side_by_side([functools.partial(self.left_of, table) for table in self.tables])
+        rows = sum(count for count, _ in each)
+        return (rows, self.blocks([pair for _, pairs in each for pair in pairs])) if rows else (0, 0)
+
+    def left_of(self, table: Table) -> tuple[int, list[str]]:
+        """How many rows of a table have open nulls, and the queries for pairs of these."""
+        name, opens = self.marked(table), self.opens(table)
+        rows = self.work.number(f"SELECT count(*) FROM {name} WHERE {' OR '.join(map(is_open, opens))}")
+        least = self.work.words.least_of([f"CASE WHEN {is_open(other)} THEN o{other} END" for other in opens])
+        return rows, [f"SELECT o{place} AS u, {least} AS n, {self.work.words.no_text} AS c FROM {name}"
                       f" WHERE {is_open(place)}" for place in opens]
-        return (rows, self.blocks(parts)) if rows else (0, 0)
 
     def blocks(self, parts: Sequence[str]) -> int:
         """The number of connected groups of nulls, of queries for pairs."""

@@ -51,7 +51,7 @@ class Server:
         self.place, self.sign, self.run = place, sign(place), run
         self.sessions = self.session, self.sending = Session(place, log), Session(place, log)
         for session in self.sessions:
-            session.made(f"{SETTINGS}; SET search_path = {run}")
+            session.begin_with(f"{SETTINGS}; SET search_path = {run}")
         if not self.session.values(f"SELECT pg_try_advisory_lock({LOCK + 1})")[0][0]:
             raise Refused("another run of clio-sql is under way on one of the servers")
         here = run.rsplit("_", 1)[0]  # the run, whose schemas are here too if the database that is asked has a part

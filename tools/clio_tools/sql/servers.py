@@ -14,7 +14,7 @@ from collections.abc import Sequence
 from clio_tools.databases.postgres import literal
 from clio_tools.mapping.text import Set
 from clio_tools.sql.gathering import Gathering
-from clio_tools.sql.moving import Member, by_hash, moved
+from clio_tools.sql.moving import Goes, Member, Moving, by_hash, by_number
 from clio_tools.sql.postgres import WORK, Postgres
 from clio_tools.sql.script import Null
 from clio_tools.sql.server import READS, Server, reached
@@ -134,17 +134,17 @@ class Servers(Postgres):
         self.unlinked.add(name)
 
     def move(self, name: str, query: str, by: By) -> None:
-        moved([server.member for server in self.servers], name, [query] * len(self.servers), self.goes(by))
+        Moving([server.member for server in self.servers], [query] * len(self.servers), self.goes(by)).run(name)
         self.unlinked.add(name)
 
-    def goes(self, by: By) -> str:
-        """The number of the server to which a row goes."""
+    def goes(self, by: By) -> Goes:
+        """Where a row goes."""
         count = len(self.servers)
         if not isinstance(by, Home):
             return by_hash([(column, column.startswith("c")) for column in by], count)
         starts = self.offsets[by.rule] if by.rule is not None else [
             head * SHIFT + start for head, null in enumerate(self.heads) for start in self.offsets[null.rule]]
-        return f"(width_bucket({by.column}, CAST(ARRAY{starts} AS bigint[])) - 1) % {count}"
+        return by_number(f"(width_bucket({by.column}, CAST(ARRAY{starts} AS bigint[])) - 1) % {count}", count)
 
     def make(self, table: Made) -> int:
         if table.is_local:
@@ -205,11 +205,11 @@ class Servers(Postgres):
         self.prepared.append((name, columns, parts))
         part = f"{self.schema.removeprefix('clio_run_')}_{len(self.prepared)}"
         self.unpublished.append(part)
-        self.spread(f'{self.made_in}."{name}"', "target", part, [(column, "text") for column in columns], ())
-        query = " UNION ALL ".join(parts)
+        query = " UNION ALL ".join(parts)  # which CREATE TABLE AS writes in less time than INSERT
         self.counts[name] = sum(at_once([
-            functools.partial(server.session.made, f'INSERT INTO {server.schema("target")}."{part}" {query}')
+            functools.partial(server.session.made, f'CREATE TABLE {server.schema("target")}."{part}" AS {query}')
             for server in self.servers], self.all_sessions))
+        self.link(f'{self.made_in}."{name}"', "target", part, [(column, "text") for column in columns])
 
     def publish(self) -> dict[str, int]:
         old = [found for name, _, _ in self.prepared for found in self.parts_of(f'target."{name}"')]

@@ -1,14 +1,18 @@
 """Work tables and questions: the steps of an exchange, one after the other, on an engine."""
 import contextlib
+import functools
+import itertools
+import threading
 import time
 from collections.abc import Callable, Iterator, Sequence
-from typing import Any, NamedTuple, Protocol
+from typing import Any, NamedTuple, Protocol, TypeVar
 
 from clio_tools.sql.forecast import Forecast
 from clio_tools.sql.script import Match, Null
 from clio_tools.sql.words import Words
 
 Row = tuple[Any, ...]
+Answer = TypeVar("Answer")
 # what was done, in how many seconds, how many rows it made (or -1), and how many seconds may be left, if that is known
 Report = Callable[[str, float, int, float | None], None]
 
@@ -43,6 +47,12 @@ class Home(NamedTuple):
 
 
 By = Sequence[str] | Home  # by what rows are brought together on a server: columns in which they agree, or their home
+
+
+class Parts(NamedTuple):
+    """A work table, and the tables that together have its rows."""
+    name: str
+    names: Sequence[str]
 
 
 class Engine(Protocol):
@@ -83,6 +93,13 @@ class Engine(Protocol):
     def load(self, name: str, columns: Sequence[str], rows: Sequence[Row]) -> None:
         """Makes a work table of rows that the tool has; each column is given with its type."""
 
+    def side_by_side(self, works: Sequence[Callable[[], Answer]]) -> list[Answer]:
+        """What works answer that don't meet: each asks the engine for its own. Several sessions do them at once."""
+
+    def split(self, by: Sequence[str]) -> Sequence[str]:
+        """Conditions that part rows for sessions that work side by side, so that rows that agree in some columns are in
+        one part; none if there are no such sessions."""
+
     def write(self, name: str, columns: Sequence[str], parts: Sequence[str]) -> None:
         """Prepares a table of the target, of the rows of some queries."""
 
@@ -109,6 +126,14 @@ class Whole:
         """Nothing has to be moved."""
         raise ValueError(name)
 
+    def side_by_side(self, works: Sequence[Callable[[], Answer]]) -> list[Answer]:
+        """What works answer, one after the other."""
+        return [work() for work in works]
+
+    def split(self, by: Sequence[str]) -> Sequence[str]:
+        """There is nothing to part."""
+        return []
+
     def make_matches(self: Engine, matches: Sequence[Matched], source: Source, heads: Sequence[Null]) -> list[int]:
         """Makes the matches by their queries."""
         return self.make_all([one.made for one in matches])
@@ -119,24 +144,26 @@ def silent(what: str, seconds: float, rows: int, left: float | None) -> None:
 
 
 class Work:
-    """Makes work tables under names of their own, and tells what is done."""
+    """Makes work tables under names of their own, and tells what is done; some of it may be done side by side."""
 
     def __init__(self, engine: Engine, report: Report = silent) -> None:
         self.engine, self.words, self.report = engine, engine.words, report
-        self.counter, self.forecast = 0, Forecast()
+        self.counter, self.forecast, self.telling = itertools.count(1), Forecast(), threading.Lock()
+        self.told = time.monotonic()  # when the last step was told
 
     def name(self, kind: str) -> str:
         """A name that no other work table has."""
-        self.counter += 1
-        return f"{kind}{self.counter}"
+        return f"{kind}{next(self.counter)}"
 
     @contextlib.contextmanager
     def step(self, what: str) -> Iterator[list[int]]:
         """Something that is done and told; who does it puts the number of rows to the list."""
         began, rows = time.monotonic(), [-1]
         yield rows
-        seconds = time.monotonic() - began
-        self.report(what, seconds, rows[-1], self.forecast.left(what, seconds))
+        with self.telling:
+            now = time.monotonic()
+            self.report(what, now - began, rows[-1], self.forecast.left(what, now - max(began, self.told)))
+            self.told = now
 
     def made(self, kind: str, query: str, by: Sequence[str] = (), what: str = "", is_local: bool = False) -> str:
         """The name of a work table that is made of a query."""
@@ -144,6 +171,14 @@ class Work:
         with self.step(what or "nulls that are equal") as rows:
             rows.append(self.engine.make(Made(name, query, by, is_local)))
         return name
+
+    def made_in_parts(self, kind: str, queries: Sequence[str], by: Sequence[str], what: str) -> Parts:
+        """Makes a work table of each query, side by side."""
+        names = self.engine.side_by_side([functools.partial(self.made, kind, query, by, what, is_local=True)
+                                          for query in queries])
+        if len(names) == 1:
+            return Parts(names[0], names)
+        return Parts(self.view(kind, " UNION ALL ".join(f"SELECT * FROM {name}" for name in names)), names)
 
     def moved(self, query: str, by: By) -> str:
         """The name of a work table of the rows of a query, brought together on servers; no name if all rows are in one

@@ -7,6 +7,8 @@ from clio_tools.sql.tables import SHIFT, Heads, Table, code
 from clio_tools.sql.words import Words, quoted
 from clio_tools.sql.work import Work
 
+TOLD = 3  # so many columns part the rows of a table well enough
+
 
 def escaped(cell: str) -> str:
     """A constant as clio writes it."""
@@ -60,7 +62,8 @@ class Writer:
             self.work.engine.write("nulls", columns, self.nulls() or [nothing(*columns)])
         with self.work.step("writing fold"):
             columns = ["null", "value"]
-            self.work.engine.write("fold", columns, list(map(self.fold, self.parts)) or [nothing(*columns)])
+            parts = [self.fold(part, where) for part in self.parts for where in self.wheres(" WHERE ", "g.u")]
+            self.work.engine.write("fold", columns, parts or [nothing(*columns)])
 
     def table(self, table: Table) -> list[str]:
         """The queries for a table."""
@@ -69,13 +72,15 @@ class Writer:
         if table.work or not table.inserts or not all(map(table.is_apart, table.inserts)):
             columns = table.listed(range(len(table.columns)))
             moved = (lambda query: self.work.moved(query, columns)) if self.work.engine.is_spread else None
-            return [f"SELECT {cells} FROM ({table.query(True, moved)}) AS t"]
+            wheres = [f" WHERE {where}" for where in self.work.engine.split(columns[:TOLD])] or [""]
+            query = table.query(True, moved)
+            return [f"SELECT {cells} FROM ({query}) AS t{where}" for where in wheres]
         return [f"SELECT {cells} FROM ({table.insert_query(insert, where=where)}) AS t"
                 for insert in table.inserts for where in self.wheres(" WHERE ")]
 
-    def wheres(self, word: str) -> list[str]:
-        """Conditions on places that part the rows of matches."""
-        return [f"{word}m.place % {self.split} = {number}" for number in range(self.split)] if self.split > 1 else [""]
+    def wheres(self, word: str, number: str = "m.place") -> list[str]:
+        """Conditions that part rows by a number, such as the places of matches."""
+        return [f"{word}{number} % {self.split} = {one}" for one in range(self.split)] if self.split > 1 else [""]
 
     def nulls(self) -> list[str]:
         """For each null that is left the values that its rule exports at its place."""
@@ -100,11 +105,12 @@ class Writer:
         columns = [(f"{self.names.head(head)} || m.place", "null"), (variable, "variable"), (value, "value")]
         return f"SELECT {', '.join(self.names.column(*one) for one in columns)} FROM {source}{where}"
 
-    def fold(self, part: Part) -> str:
+    def fold(self, part: Part, where: str) -> str:
         """The nulls that went, with what they became."""
         value = self.names.cell("g.c", "g.n", part.texts, part.after)
         null = self.names.null("g.u", part.before)
-        return f"SELECT {self.names.column(null, 'null')}, {self.names.column(value, 'value')} FROM {part.table} AS g"
+        return (f"SELECT {self.names.column(null, 'null')}, {self.names.column(value, 'value')} FROM {part.table} AS g"
+                f"{where}")
 
 
 def matches_of(inserts: Sequence[Insert], rule: int) -> str:

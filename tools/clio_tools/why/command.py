@@ -20,8 +20,8 @@ before it is said.
 Of the rules of a mapping that clio-rules printed, it says which statements of the drawing led to them.
 
 All is read from what clio wrote: the rules, fold.csv, the tables in out, and the source files. If these aren't of one
-run, it says so. If out is missing, or has the rules of another mapping or the numbers of clio-ids, clio-why itself runs
-`clio exchange`, in a folder of its own.
+run, it says so. If out is missing, or has the rules of another mapping or the numbers of clio-ids, or isn't of one run
+and there is `--ids`, clio-why itself runs `clio exchange`, in a folder of its own.
 
 OPTIONS
 `--ids CROSSWALK`: if clio-ids gave a number to a null, KEY can have this number, as a database has it, and nulls are
@@ -82,10 +82,9 @@ def words_of(words: list[str]) -> argparse.Namespace:
 
 
 @contextlib.contextmanager
-def exchanged(folder: pathlib.Path, is_core: bool) -> Iterator[Reasons]:
+def exchanged(folder: pathlib.Path, is_core: bool, has_ids: bool) -> Iterator[Reasons]:
     """The reasons of a folder: of what is in `out`, or of a run in a folder of its own."""
-    if is_usable(folder):
-        check_one_run(folder)
+    if is_current(folder, has_ids):
         yield Reasons.of_folder(folder)
         return
     with tempfile.TemporaryDirectory(prefix="clio-why-") as name:
@@ -120,6 +119,20 @@ def check_one_run(folder: pathlib.Path) -> None:
             raise Refused(f"{path} is missing, or is no file: {AGAIN}")
         if path.stat().st_mtime_ns < newest.stat().st_mtime_ns:
             raise Refused(f"out is not of these files, {AGAIN}: {path} is older than {newest}")
+
+
+def is_current(folder: pathlib.Path, has_ids: bool) -> bool:
+    """Whether `out` can be taken. It is refused if it isn't of these files; but a row with the numbers of a crosswalk
+    is one of a database, and what an earlier run left here doesn't matter."""
+    if not is_usable(folder):
+        return False
+    try:
+        check_one_run(folder)
+    except Refused:
+        if not has_ids:
+            raise
+        return False
+    return True
 
 
 def is_usable(folder: pathlib.Path) -> bool:
@@ -165,7 +178,7 @@ def work(words: list[str]) -> None:
     """Answers the question."""
     given = words_of(words)
     gc.disable()  # millions of texts are made, none of them in a circle
-    with exchanged(pathlib.Path(), given.core) as reasons:
+    with exchanged(pathlib.Path(), given.core, given.ids is not None) as reasons:
         said = (of_source if given.is_source else of_target)(reasons, given)
         told = list(said if given.all else itertools.islice(said, MOST_ROWS + 1))
     more = len(told) > MOST_ROWS and not given.all

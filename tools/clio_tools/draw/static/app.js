@@ -2,13 +2,13 @@
 import {ask} from "./api.js";
 import {startClicks} from "./clicks.js";
 import {drawCurves, drawnCounts} from "./curves.js";
-import {byId, counted, later, say} from "./dom.js";
+import {byId, counted, later, said, say} from "./dom.js";
 import {startDrafts} from "./drafts.js";
 import {showHand} from "./hand.js";
 import {showInspector} from "./inspector.js";
 import {startKeys} from "./keys.js";
 import {showLines} from "./lines.js";
-import {because, isWhole, loadTheirs, model, on, open, redo, save, setLive, undo} from "./model.js";
+import {forget, isWhole, loadTheirs, model, on, open, redo, save, setLive, undo} from "./model.js";
 import {startPicture} from "./picture.js";
 import {startPointer} from "./pointer.js";
 import {textChanged} from "./proposals.js";
@@ -24,22 +24,25 @@ let runs = 0;
 async function run() {
   const number = ++runs, text = model.text, began = performance.now();
   const asked = {text, core: byId("core").checked, rows: Number(byId("rows").value)};
+  let before = said();
   byId("results").setAttribute("aria-busy", "true");
   let live = await ask("live", {...asked, whole: false});
   if (number !== runs) return;
   model.liveMs = performance.now() - began;
   byId("results").removeAttribute("aria-busy");
-  show({...live, core: asked.core}, text);
+  show({...live, core: asked.core}, text, before);
   if (!live.tables || isWhole(live)) return;
   byId("whole").textContent = "the whole source is being read";
+  before = said();
   live = await ask("live", {...asked, whole: true});
   if (number !== runs) return;
   byId("whole").textContent = "";
   if (live.error || live.stopped) say(`not the whole source: ${live.error ?? live.stopped}`);
-  else show({...live, core: asked.core}, text);
+  else show({...live, core: asked.core}, text, before);
 }
 
-function show(live, text) {
+// What came of a run. If something was said meanwhile, as that the text is saved, its numbers don't take that place.
+function show(live, text, before) {
   byId("whole").textContent = "";
   if (live.error) {
     setLive(
@@ -58,13 +61,15 @@ function show(live, text) {
   setLive(live, text);
   if (live.fault) say(`fault: ${live.fault.message.slice(0, 120)}`);
   else if (live.stopped) say(live.stopped);
-  else if (live.tables) {
+  else if (live.tables && said() === before) {
     const rows = Object.values(live.tables).reduce((sum, one) => sum + one.count, 0);
     say(`${counted(live.rules.length, "rule")}, ${counted(rows, "target row")}${
         live.whole ? " of the whole source" : ""}, ${Math.round(model.liveMs)} ms`);
   }
 }
-const live = later(200, run);
+
+// What was drawn runs at once. What is typed waits for more of it, as long as a run takes, but not long.
+const live = later(() => (model.typed ? Math.min(model.liveMs ?? 0, 200) : 0), run);
 
 on("text", () => {
   textpane.showText();
@@ -72,7 +77,7 @@ on("text", () => {
   live();
 });
 on("outline", () => {
-  because([]);
+  forget();
   redraw();
   textpane.drawMarks();
   showLines();

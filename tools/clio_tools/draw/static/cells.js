@@ -15,6 +15,11 @@ export function cell(text) {
   if (text === "") return h("span", {class: "empty"}, "empty");
   return text.startsWith("??") ? text.slice(1) : text;
 }
+export const IN_SIGHT = 15;  // rows of a table
+
+// A long text is cut in its cell, and all of it is there for a pointer. Cells of short ones are never cut: a browser
+// takes long over thousands of boxes that may be.
+export const ifLong = (text) => (text.length > 30 ? {title: text, class: "long"} : {});
 export const cells = (row) => row.flatMap((text, place) => [place ? ", " : "", cell(text)]);
 
 // A row of the source with its place.

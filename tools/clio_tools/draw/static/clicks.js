@@ -37,7 +37,7 @@ export function startClicks() {
     byId(side).addEventListener("scroll", curves, {passive: true});
     byId(`${side}-filter`)
         .addEventListener(
-            "input", later(80, () => {
+            "input", later(() => 80, () => {
               sides[side].filter = byId(`${side}-filter`).value.trim();
               redraw();
               say(`${counted(sides[side].rows.filter((row) => row.dataset.column).length, "column")} shown`);

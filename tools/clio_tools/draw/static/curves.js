@@ -3,7 +3,7 @@
 // here both sides scroll, fold and have the focus, so where an end is only the browser knows.
 import {byId, s} from "./dom.js";
 import {lineText, model, setsOf} from "./model.js";
-import {keyOf, sides} from "./trees.js";
+import {keyOf, sides, topOf} from "./trees.js";
 
 const COLOURS = 8;
 
@@ -17,7 +17,7 @@ function end(side, set, column, frame) {
   const row = one.rows[place];
   if (!row) return null;
   const box = frame[side];
-  const y = box.top + row.offsetTop - box.scroll + row.offsetHeight / 2;
+  const y = box.top + topOf(one, place) - box.scroll + row.offsetHeight / 2;
   const top = box.top + 2, low = box.top + box.height - 2;
   return {y: Math.max(top, Math.min(low, y)), seen: y >= top && y <= low, isSet};
 }

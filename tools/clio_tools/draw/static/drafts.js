@@ -61,7 +61,7 @@ async function draft(again) {
   }
   byId("draft").close();
   replaceText(made);
-  model.drafted = made.remarks;
+  model.drafted[side] = made.remarks;
   if (made.files.length) again();
   say([
     `the ${side} is drafted`, made.files.length && `${made.files.length} files written`,

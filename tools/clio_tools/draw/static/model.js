@@ -37,7 +37,7 @@ export const model = {
   live: null,
   liveText: null,
   shown: null,
-  drafted: [],      // what clio-draft remarked
+  drafted: {source: [], target: []},  // what clio-draft remarked
   base: new Map(),  // the numbers of rows of the text that was saved last, for each kind of run
 };
 
@@ -185,8 +185,9 @@ export async function save(over = null) {
   const made = await ask("save", {text, name: model.name, digest: over ?? model.digest, ends: model.ends});
   if (made.digest) {
     Object.assign(model, {digest: made.digest, name: made.name, saved: text});
-    say(made.name === "drawing.clio" ? "saved as drawing.clio, of which clio-rules --write makes mapping.clio" :
-                                       "saved");
+    say(made.name !== "drawing.clio" ? "saved" :
+            made.in_the_way          ? "saved as drawing.clio: remove mapping.clio, then clio-rules --write makes it anew" :
+                                       "saved as drawing.clio, of which clio-rules --write makes mapping.clio");
     keepBase();
     tell("saved");
   } else if (made.error) say(`not saved: ${made.error}`);
@@ -223,6 +224,12 @@ export function because(lines, rule = null) {
   model.because = new Set(lines);
   model.becauseRule = rule;
   tell("selection");
+}
+
+// The text changed: the lines of a reason may be others.
+export function forget() {
+  model.because = new Set();
+  model.becauseRule = null;
 }
 
 export function ghost(proposal) {

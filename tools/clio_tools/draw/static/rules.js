@@ -1,11 +1,17 @@
 // The rules in words.
 import {counted, fill, h} from "./dom.js";
 import {because} from "./model.js";
-import {panels, title} from "./tabs.js";
+import {onOpen, panels, title} from "./tabs.js";
 
-let shownRules = "";
-export function showRules(rules) {
+let rules = null, shownRules = "";
+export function takeRules(made) {
+  rules = made;
   title("rules", rules.length);
+  showRules();
+}
+
+function showRules() {
+  if (panels.rules.hidden || !rules) return;
   const json = JSON.stringify(rules);
   if (json === shownRules) return;
   shownRules = json;
@@ -50,3 +56,5 @@ const valueWords = (kind, says) => ({
   link: h("span", {class: "join"}, ` = ${says} (one unknown value that links them)`),
   open: h("span", {class: "open"}, " is left open")
 }[kind]);
+
+onOpen("rules", showRules);

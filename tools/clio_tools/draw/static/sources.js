@@ -1,6 +1,6 @@
 // The rows of the source: which rules use each, or what it missed; and where a row goes.
 import {ask} from "./api.js";
-import {cells, closeButton, cureButtons, sourceRow} from "./cells.js";
+import {cells, closeButton, cureButtons, ifLong, IN_SIGHT, sourceRow} from "./cells.js";
 import {counted, fill, h} from "./dom.js";
 import {because, model} from "./model.js";
 import {onOpen, panels, title} from "./tabs.js";
@@ -44,10 +44,7 @@ function sourceTable(table, where) {
               }
             },
               row.why ? "–" : "→")),
-          row.cells.map(
-              (text) =>
-                  h("td", {title: text.length > 30 ? text : null},
-                    text === "" ? h("span", {class: "empty"}, "empty") : text)),
+          row.cells.map((text) => h("td", ifLong(text), text === "" ? h("span", {class: "empty"}, "empty") : text)),
           h("td", {class: "reason"}, row.why ?? ""));
     return made;
   }));
@@ -63,10 +60,10 @@ function sourceTable(table, where) {
           (group) =>
               h("p", {class: "group"}, `${counted(group.count, "row is", "rows are")} not used: ${group.says} `,
                 cureButtons(group.cures))),
-      h("div", {class: "scroll"},
+      h("div", {class: `scroll ${table.rows.length > IN_SIGHT ? "tall" : ""}`},
         h("table", {},
           h("thead", {},
-            h("tr", {}, h("th"), table.columns.map((column) => h("th", {scope: "col"}, column)),
+            h("tr", {}, h("th"), table.columns.map((column) => h("th", {scope: "col", ...ifLong(column)}, column)),
               h("th", {}, table.unused ? "why not used" : ""))),
           body)));
 }
@@ -100,6 +97,7 @@ async function forward(table, number, element, box) {
           .filter((index) => model.outline.lines[index]?.columns.some(([set]) => set === table.name)),
       rules[0] ?? null);
   box.focus({preventScroll: true});
+  element.scrollIntoView({block: "nearest"});
 }
 
 onOpen("sources", showSources);

@@ -1,7 +1,7 @@
 // The rows of the target.
 import {ask} from "./api.js";
-import {cell, cells} from "./cells.js";
-import {counted, fill, h, say} from "./dom.js";
+import {cell, cells, ifLong, IN_SIGHT} from "./cells.js";
+import {counted, fill, h, keep, say} from "./dom.js";
 import {change, model} from "./model.js";
 import {panels, title} from "./tabs.js";
 import {why} from "./why.js";
@@ -25,10 +25,12 @@ function sourceNote(live) {
       .join("");
 }
 
-// The tables of the target. A table that is as it was keeps its element; of many tables those are made that come into
-// sight.
+// The tables of the target. A table keeps its element, and of one that changed each row and each cell that is as it
+// was: what is drawn anew is what changed. Of many tables those are made that come into sight.
 const EAGER = 12;
-let shown = new Map(), shownSources = "";
+const tables = h("div", {class: "tables"}), note = h("p", {class: "note"});
+const reason = h("aside", {id: "why", class: "why", hidden: true, "aria-label": "Why a row is there", tabindex: -1});
+let shown = new Map();
 const watcher = new IntersectionObserver(
     (entries) => entries.forEach((entry) => {
       if (entry.isIntersecting) {
@@ -40,45 +42,49 @@ const watcher = new IntersectionObserver(
 
 export function showRows(live) {
   title("rows", Object.values(live.tables).reduce((sum, table) => sum + table.count, 0));
-  const names = Object.keys(live.tables), next = new Map(), note = sourceNote(live);
-  let isNew = note !== shownSources || names.join() !== [...shown.keys()].join();
+  const names = Object.keys(live.tables), next = new Map(), told = sourceNote(live);
+  let isNew = told !== note.textContent || names.join() !== [...shown.keys()].join();
   for (const name of names) {
-    const json = JSON.stringify([live.tables[name], change(name)]), old = shown.get(name);
-    if (old?.json === json) next.set(name, old);
-    else {
-      isNew = true;
-      next.set(name, {json, section: tableOf(name, live.tables[name], names.length > EAGER)});
-    }
+    const json = JSON.stringify([live.tables[name], change(name)]), one = shown.get(name) ?? emptyTable(name);
+    next.set(name, one);
+    if (one.json === json) continue;
+    isNew = true;
+    one.json = json;
+    putTable(one, live.tables[name], names.length > EAGER);
   }
   shown = next;
-  shownSources = note;
   if (!isNew) return;
-  const why = h("aside", {id: "why", class: "why", hidden: true, "aria-label": "Why a row is there", tabindex: -1});
+  note.textContent = told;
   document.querySelectorAll("#panel-rows tr.selected").forEach((one) => one.classList.remove("selected"));
-  const scroll = panels.rows.querySelector(".tables")?.scrollTop ?? 0;
-  fill(
-      panels.rows,
-      h("div", {class: "tables"}, h("p", {class: "note"}, note), [...next.values()].map((one) => one.section)), why);
-  panels.rows.querySelector(".tables").scrollTop = scroll;
+  reason.hidden = true;
+  keep(tables, [note, ...[...next.values()].map((one) => one.section)]);
+  keep(panels.rows, [tables, reason]);
 }
 
-function tableOf(name, table, isLazy) {
-  const section =
-      h("section", {class: "target-table", "aria-label": `${name}, ${counted(table.count, "row")}`, "data-table": name},
-        h("h3", {}, name, h("span", {}, ` ${counted(table.count, "row")}${change(name)} `),
-          table.count > 1 && h("button", {class: "badge", onclick: () => group(name, groups)}, "by reason")));
-  const groups = h("div", {class: "groups"});
-  section.append(groups);
+function emptyTable(name) {
+  const head = h("h3"), groups = h("div", {class: "groups"}), content = h("div");
+  const section = h("section", {class: "target-table", "data-table": name}, head, groups, content);
+  return {name, section, head, groups, content, body: null};
+}
+
+// Puts the rows of a table into its element.
+function putTable(one, table, isLazy) {
+  const {name, section, head, groups} = one, count = counted(table.count, "row");
+  one.table = table;
+  section.setAttribute("aria-label", `${name}, ${count}`);
+  fill(
+      head, name, h("span", {}, ` ${count}${change(name)} `),
+      table.count > 1 && h("button", {class: "badge", onclick: () => group(name, groups)}, "by reason"));
+  fill(groups);
   section.make = () => {
     section.style.minHeight = "";
-    section.append(...rowsOf(name, table));
+    putContent(one);
   };
-  if (isLazy && table.count) {
+  if (isLazy && table.count && !one.body) {
     section.style.flexBasis = "100%";
     section.style.minHeight = `${Math.min(table.rows.length + 1, 13) * 24 + 24}px`;
     watcher.observe(section);
   } else section.make();
-  return section;
 }
 
 function rulesIn(rules) {
@@ -108,44 +114,65 @@ async function group(name, box) {
       cut && h("p", {class: "empty"}, "of the first 5,000 rows"));
 }
 
-function rowsOf(name, table) {
-  if (!table.count) return [h("p", {class: "empty"}, "no rows")];
-  const rowsFrom = ({rows, empty}, start) => rows.map((row, place) => rowOf(name, row, empty.includes(start + place)));
-  const body = h("tbody", {}, rowsFrom(table, 0));
+function putContent(one) {
+  const {name, table, content} = one, columns = table.columns.join();
+  if (!table.count) {
+    one.body = null;
+    fill(content, h("p", {class: "empty"}, "no rows"));
+    return;
+  }
+  if (!one.body || one.columns !== columns) {
+    one.columns = columns;
+    one.body = h("tbody");
+    fill(
+        content,
+        h("div", {class: "scroll"},
+          h("table", {},
+            h("thead", {},
+              h("tr", {}, h("th", {}, h("span", {class: "hidden"}, "why")),
+                table.columns.map((column) => h("th", {scope: "col", ...ifLong(column)}, column)))),
+            one.body)));
+  }
+  putRows(one.body, name, table);
+  one.body.closest(".scroll").classList.toggle("tall", table.rows.length > IN_SIGHT);
+  keep(content, [content.firstChild, ...(table.rows.length < table.count ? [moreButton(one)] : [])]);
+}
+
+// Puts rows in the place of those of a body.
+function putRows(body, name, {rows, empty}) {
+  const old = [...body.children], nothing = new Set(empty);
+  rows.forEach((row, place) => putRow(old[place] ?? body.appendChild(rowOf(name, row)), name, row, nothing.has(place)));
+  old.slice(rows.length).forEach((row) => row.remove());
+}
+
+function moreButton({name, table, body}) {
   const more =
       h("button", {
         onclick: async () => {
-          const next = await ask(
-              "more", {whole: model.kept.whole, run: model.kept.run, table: name, start: body.children.length});
+          const start = body.children.length;
+          const next = await ask("more", {whole: model.kept.whole, run: model.kept.run, table: name, start});
           if (next.error) {
             say(next.error);
             return;
           }
-          body.append(...rowsFrom(next, body.children.length));
+          const nothing = new Set(next.empty);
+          next.rows.forEach(
+              (row, place) => putRow(body.appendChild(rowOf(name, row)), name, row, nothing.has(start + place)));
           if (body.children.length >= table.count) more.remove();
           else more.textContent = counted(table.count - body.children.length, "more row");
         }
       },
         counted(table.count - table.rows.length, "more row"));
-  return [
-    h("div", {class: "scroll"},
-      h("table", {},
-        h("thead", {},
-          h("tr", {}, h("th", {}, h("span", {class: "hidden"}, "why")),
-            table.columns.map((column) => h("th", {scope: "col"}, column)))),
-        body)),
-    ...(table.rows.length < table.count ? [more] : [])
-  ];
+  return more;
 }
 
-// A row of nothing but nulls is red: a click says which rule made it, and its lines.
-function rowOf(name, row, isEmpty) {
-  const asked = () => why(name, row, made);
+// The element of a row, without its texts.
+function rowOf(name, row) {
+  const asked = () => why(name, made.texts, made);
   const made =
-      h("tr", {onclick: asked, class: isEmpty ? "nothing" : "", title: isEmpty ? "nothing is known of this row" : null},
+      h("tr", {onclick: asked},
         h("td", {class: "why-cell"},
           h("button", {
-            "aria-label": `Why is this row in ${name}: ${row.join(", ").slice(0, 80)}`,
             title: "Why is this row here?",
             onclick: (event) => {
               event.stopPropagation();
@@ -153,6 +180,22 @@ function rowOf(name, row, isEmpty) {
             }
           },
             "?")),
-        row.map((text) => h("td", {title: text.length > 30 ? text : null}, cell(text))));
+        row.map(() => h("td")));
+  made.texts = [];
   return made;
+}
+
+// Puts texts into the element of a row. A row of nothing but nulls is red: a click says which rule made it, and its
+// lines.
+function putRow(made, name, row, isNothing) {
+  if (made.classList.toggle("nothing", isNothing)) made.title = "nothing is known of this row";
+  else made.removeAttribute("title");
+  if (row.every((text, place) => text === made.texts[place])) return;
+  made.firstChild.firstChild.setAttribute("aria-label", `Why is this row in ${name}: ${row.join(", ").slice(0, 80)}`);
+  row.forEach((text, place) => {
+    if (text === made.texts[place]) return;
+    const one = h("td", ifLong(text), cell(text));
+    made.children[place + 1].replaceWith(one);
+  });
+  made.texts = row;
 }

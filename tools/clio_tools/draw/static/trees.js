@@ -1,13 +1,23 @@
 // Both sides as trees: sets with their columns, keys, refs, conditions and texts. Rows that are filtered out or
 // collapsed aren't there.
 import {ask} from "./api.js";
-import {byId, counted, h, say} from "./dom.js";
+import {byId, counted, h, keep, say} from "./dom.js";
 import {change, model, nameOf, rowsOf, select, setsOf} from "./model.js";
 
 const MANY = 200;  // with more columns on a side, its sets begin collapsed
+const sideOf = (name) => ({
+  name,
+  collapsed: new Set(),
+  known: new Set(),
+  filter: "",
+  lined: false,
+  rows: [],
+  at: new Map(),
+  kept: new Map()  // the row of each key, with what it shows
+});
 export const sides = {
-  source: {name: "source", collapsed: new Set(), known: new Set(), filter: "", lined: false, rows: [], at: new Map()},
-  target: {name: "target", collapsed: new Set(), known: new Set(), filter: "", lined: false, rows: [], at: new Map()},
+  source: sideOf("source"),
+  target: sideOf("target")
 };
 export const keyOf = (set, column) => (column === undefined || column === null ? set : `${set}.${column}`);
 
@@ -15,14 +25,14 @@ export const keyOf = (set, column) => (column === undefined || column === null ?
 function marks() {
   const lined = {source: new Set(), target: new Set()}, texts = new Map(), tests = new Map(),
         ends = {source: new Map(), target: new Map()};
-  const add = (side, key, line) => {
+  const add = (side, key, other) => {
     const listed = ends[side].get(key);
-    if (listed) listed.push(line);
-    else ends[side].set(key, [line]);
+    if (listed) listed.push(other);
+    else ends[side].set(key, [other]);
   };
   model.outline.lines.forEach((line, index) => {
-    line.columns.forEach((column) => add("source", keyOf(...column), line));
-    if (line.literal === null) add("target", keyOf(...line.target), line);
+    line.columns.forEach((column) => add("source", keyOf(...column), line.target.join(".")));
+    if (line.literal === null) add("target", keyOf(...line.target), line.columns.map(nameOf).join(" and "));
     line.columns.forEach((column) => lined.source.add(keyOf(...column)));
     lined.target.add(keyOf(...line.target));
     if (line.literal !== null)
@@ -57,7 +67,7 @@ function arranged(side) {
 }
 
 function drawSide(side, {lined, texts, tests, ends}) {
-  const box = byId(side.name), sets = [...setsOf(model.outline[side.name])];
+  const box = byId(side.name), sets = [...setsOf(arranged(side))];
   const total = sets.reduce((sum, [tree]) => sum + tree.columns.length, 0);
   const active = document.activeElement?.closest?.(`#${side.name} .row`)?.dataset.key;
   const parents = new Map();
@@ -69,8 +79,18 @@ function drawSide(side, {lined, texts, tests, ends}) {
     }
   }
   const filter = side.filter.toLowerCase();
-  const rows = [];
+  const rows = [], old = side.kept;
+  side.kept = new Map();
   side.at = new Map();
+  // A row that shows what it showed stays, with its focus.
+  const add = (key, shows, make) => {
+    const json = JSON.stringify(shows), known = old.get(key);
+    old.delete(key);
+    const row = known?.json === json ? known.row : make();
+    row.tabIndex = -1;
+    side.kept.set(key, {json, row});
+    rows.push(row);
+  };
   const hidden = (name) => {
     for (let up = parents.get(name); up; up = parents.get(up))
       if (!filter && side.collapsed.has(up)) return up;
@@ -89,7 +109,8 @@ function drawSide(side, {lined, texts, tests, ends}) {
       continue;
     }
     if ((filter || side.lined) && !columns.length && !(whole && filter) && !(side.lined && tree.inner.length)) continue;
-    rows.push(setRow(side, tree, level, isOpen, columns.length));
+    addSet(side, tree, level, isOpen, columns.length, add);
+    const clauses = JSON.stringify([tree.keys, tree.deps, tree.refs.map(({at, ...ref}) => ref)]);
     for (const column of tree.columns) {
       const key = keyOf(tree.name, column.name);
       if (!isOpen) {
@@ -97,12 +118,13 @@ function drawSide(side, {lined, texts, tests, ends}) {
         continue;
       }
       if (!columns.includes(column)) continue;
-      rows.push(columnRow(side, tree, column, level, {
+      const told = {
         lined: lined[side.name].has(key),
         texts: texts.get(key),
         tests: tests.get(key),
         ends: ends[side.name].get(key) ?? []
-      }));
+      };
+      add(key, [level, clauses, told], () => columnRow(side, tree, column, level, told));
     }
   }
   side.rows = rows;
@@ -113,12 +135,17 @@ function drawSide(side, {lined, texts, tests, ends}) {
         filter ?
             "nothing matches" :
             "no sets yet: draft them from a database or from files by the button above, or declare them in the text"));
-  box.replaceChildren(...rows);
+  keep(box, rows);
   byId(`${side.name}-fold`).textContent = sets.some(([tree]) => !side.collapsed.has(tree.name)) ? "collapse" : "expand";
   const again = active && rows.find((row) => row.dataset.key === active);
   const tabbed = again || rows.find((row) => row.classList.contains("row"));
   if (tabbed) tabbed.tabIndex = 0;
   if (again) again.focus({preventScroll: true});
+}
+
+function addSet(side, tree, level, isOpen, count, add) {
+  add(tree.name, [level, isOpen, count, menuOf(side, tree.name)], () => setRow(side, tree, level, isOpen, count));
+  putCount(side, side.kept.get(tree.name).row);
 }
 
 function setRow(side, tree, level, isOpen, count) {
@@ -144,7 +171,7 @@ function setRow(side, tree, level, isOpen, count) {
           "aria-label": `Set ${tree.name}`
         },
           menuOf(side, tree.name)),
-        h("span", {class: "count", "data-count": count}, countOf(side, tree.name, isOpen, count)),
+        h("span", {class: "count", "data-count": count}),
         side.name === "source" && h("span", {class: "port", "aria-hidden": "true"}));
   row.style.paddingLeft = `${8 + 14 * (level - 1)}px`;
   return row;
@@ -181,12 +208,15 @@ export function liveTrees() {
     return;
   }
   for (const side of Object.values(sides))
-    for (const row of side.rows) {
-      if (!row.classList.contains("set")) continue;
-      const count = row.querySelector(".count");
-      count.textContent =
-          countOf(side, row.dataset.set, row.getAttribute("aria-expanded") === "true", Number(count.dataset.count));
-    }
+    for (const row of side.rows)
+      if (row.classList.contains("set")) putCount(side, row);
+}
+
+function putCount(side, row) {
+  const count = row.querySelector(".count");
+  const told =
+      countOf(side, row.dataset.set, row.getAttribute("aria-expanded") === "true", Number(count.dataset.count));
+  if (count.textContent !== told) count.textContent = told;
 }
 
 function columnRow(side, tree, column, level, {lined, texts, tests, ends}) {
@@ -231,10 +261,7 @@ function columnRow(side, tree, column, level, {lined, texts, tests, ends}) {
     said.push(`text ${text}`);
   });
   if (ends.length)
-    said.push(
-        counted(ends.length, "line") + " " +
-        (side.name === "source" ? "to " + ends.map((line) => line.target.join(".")).join(", ") :
-                                  "from " + ends.map((line) => line.columns.map(nameOf).join(" and ")).join(", ")));
+    said.push(`${counted(ends.length, "line")} ${side.name === "source" ? "to" : "from"} ${ends.join(", ")}`);
   const row =
       h("div", {
         class: `row column${lined ? " lined" : ""}`,
@@ -285,6 +312,9 @@ export function markRows() {
     }
 }
 
+// How far a row is below the first one, also if it is the head of a set that sticks to the rim.
+export const topOf = (side, place) => place * side.rows[place].offsetHeight;
+
 export function show(side, set, column) {
   const one = sides[side];
   if (one.at.get(keyOf(set, column))?.place === undefined) {
@@ -300,8 +330,7 @@ export function show(side, set, column) {
   }
   const row = one.rows[one.at.get(keyOf(set, column))?.place];
   if (row) {
-    const box = byId(side);
-    const top = row.offsetTop;
+    const box = byId(side), top = topOf(one, one.at.get(keyOf(set, column)).place);
     if (top < box.scrollTop + 24 || top > box.scrollTop + box.clientHeight - 44)
       box.scrollTop = Math.max(0, top - box.clientHeight / 2);
   }

@@ -39,6 +39,7 @@ export async function why(name, row, element) {
           h("p", {class: "empty"}, `and ${counted(found.count - found.asked.length, "more match", "more matches")}`),
       found.replaced.length > 0 && h("h3", {}, "What took the place of its nulls"), ...found.replaced.map(stepOf));
   box.focus({preventScroll: true});
+  element.scrollIntoView({block: "nearest"});  // what is said of it took room
   const lines = rules.flatMap((rule) => model.kept.rules[rule]?.words?.lines ?? [])
                     .filter((index) => model.outline.lines[index]?.target[0] === name);
   because(lines, found.asked[0].rule);
