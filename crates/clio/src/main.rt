@@ -22,8 +22,8 @@ ghost use Rattle.clio_steps.specs.Steps.{program};
 ghost use Rattle.clio_top.specs.Right.{IsRight};
 ghost use Rattle.clio.specs.Exit.{IsExit};
 
+use clio_ending::status_and_message;
 use clio_folder::{FolderInputs, FolderOutputs};
-use clio_status::status_and_message;
 use clio_terminal::shown;
 use clio_top::{Ending, run};
 use dx_base::{Items, Text};

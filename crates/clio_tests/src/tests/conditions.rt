@@ -8,7 +8,7 @@ ghost use Rattle.dx_funcs.specs.Shipped.{shipped_apply, shipped_conversions};
 ghost use Rattle.clio_tests.specs.Own.{begins_with_a};
 
 use crate::tests::faults::file;
-use clio_status::status_and_message;
+use clio_ending::status_and_message;
 use clio_top::run;
 use dx_base::{File, Items, Text};
 use dx_funcs::{Host, Meaning, RowTest, Tests, convert, shipped_list};

@@ -7,7 +7,7 @@ ghost use Rattle.dx_funcs.specs.Serving.{Serves};
 ghost use Rattle.dx_funcs.specs.Shipped.{shipped_apply, shipped_conversions, shipped_passes, shipped_row_tests};
 
 use crate::tests::shipped::passes;
-use clio_status::status_and_message;
+use clio_ending::status_and_message;
 use clio_top::{Ending, run};
 use dx_base::{File, Items, Text};
 use dx_funcs::{Host, Meaning, Shipped, Tests, convert, shipped_list, shipped_tests};

@@ -1,9 +1,16 @@
 // Letting an ending go, part by part.
-use clio_ending::{
-    Answer, Answers, Clash, Comparison, Done, Ending, Exchange, MapFault, OtherFault, RowsFault,
-    Verdict, Why,
-};
+//
+// An ending may own an instance or two. To let one go is proved in each function that does so, and there for each part of it on each
+// way out, at a cost that grows faster than their number. So endings are let go here alone, each of their parts by a function of its
+// own.
+use crate::ending::{Answers, Done, Ending};
+use crate::faults::OtherFault;
+use clio_accept::MapFault;
+use clio_source::RowsFault;
+use dx_compare::{Answer, Comparison};
+use dx_exchange::{Clash, Exchange};
 use dx_json::JsonKind;
+use dx_judge::{Verdict, Why};
 use dx_schema::SchemaKind;
 
 fn let_exchange_go(_: Exchange) {}

@@ -3,8 +3,9 @@ ghost use Rattle.std.specs.Prelude.{◌≡◌, IfOk};
 ghost use Rattle.clio_ending.specs.Ending.{status_of};
 ghost use Rattle.clio_ending.specs.Message.{message_of};
 
+use crate::ending::Ending;
 use crate::letting_go::let_go;
-use clio_ending::{Ending, message};
+use crate::messages::message;
 use dx_base::Text;
 use std::alloc::{AllocError, Global};
 
