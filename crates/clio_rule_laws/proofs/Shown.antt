@@ -16,11 +16,11 @@ use Rattle.dx_funcs.specs.declared.row_test.RowTest.{RowTest}
 use Rattle.dx_funcs.specs.Offers.{IsOffer}
 use Rattle.dx_base.specs.Texts.{Text}
 use Rattle.dx_tgd_text.specs.Reading.{rule_fault, rules_fault, rule_of_text}
-use Rattle.dx_rule_laws.specs.ReadBack.{IsWritable}
-use Rattle.dx_rule_laws.proofs.Lines.{printed_lines_are_read}
-use Rattle.dx_rule_laws.proofs.Said.{said_rules_are_writable}
-use Rattle.dx_rule_laws.proofs.LineRules.{line_rules_are_writable}
-use Rattle.dx_rule_laws.proofs.Closings.{closings_are_writable}
+use Rattle.clio_rule_laws.specs.ReadBack.{IsWritable}
+use Rattle.clio_rule_laws.proofs.Lines.{printed_lines_are_read}
+use Rattle.clio_rule_laws.proofs.Said.{said_rules_are_writable}
+use Rattle.clio_rule_laws.proofs.LineRules.{line_rules_are_writable}
+use Rattle.clio_rule_laws.proofs.Closings.{closings_are_writable}
 use Rattle.dx_stages.specs.Worlds.{World}
 use Rattle.dx_stages.specs.Stages.{next}
 use Rattle.dx_implies.proofs.Pruned.{left_implies}
@@ -32,7 +32,8 @@ use Rattle.clio_accept.specs.Accepting.{accepting, between_of, said_rules, targe
 use Rattle.clio_accept.specs.Laws.{MappingFits}
 use Rattle.clio_accept.proofs.Accepted.{IsTaken, accepted_fits, is_taken, checked}
 use Rattle.clio_accept.proofs.Closed.{closed_of}
-use Rattle.clio_rule_laws.specs.Laws.{AreShownAgain, ShownRulesAreReadAgain}
+use Rattle.clio_rule_laws.specs.Shown.{AreShownAgain}
+use Rattle.clio_rule_laws.specs.Laws.{ShownRulesAreReadAgain}
 
 -- ---- the rules
 

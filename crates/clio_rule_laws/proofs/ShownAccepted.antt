@@ -29,8 +29,8 @@ use Rattle.dx_line_text.specs.Naming.{lines_of}
 use Rattle.dx_base.specs.Texts.{Text}
 use Rattle.dx_tgd_text.specs.Reading.{RuleHasFewCells, rules_of_texts as said_rules_of}
 use Rattle.dx_tgd_text.proofs.Written.{texts_have_whole_rules}
-use Rattle.dx_rule_laws.specs.ReadBack.{AreReadBehind}
-use Rattle.dx_rule_laws.specs.ReadBack as read_back
+use Rattle.clio_rule_laws.specs.ReadBack.{AreReadBehind}
+use Rattle.clio_rule_laws.specs.ReadBack as read_back
 use Rattle.dx_stages.specs.Worlds.{World}
 use Rattle.dx_stages.specs.Stages.{next}
 use Rattle.dx_implies.proofs.Pruned.{left_implies}
@@ -41,7 +41,8 @@ use Rattle.clio_accept.specs.Laws.{MappingFits}
 use Rattle.clio_accept.proofs.Accepted.{IsRead, accepted_fits, all_rules_fit}
 use Rattle.clio_accept.proofs.Closed.{closed_of}
 use Rattle.clio_accept.proofs.Few.{narrow_sides}
-use Rattle.clio_rule_laws.specs.Laws.{AreShownAgain, ShownIsAccepted, rule_lines, unconditional}
+use Rattle.clio_rule_laws.specs.Shown.{AreShownAgain, rule_lines, unconditional}
+use Rattle.clio_rule_laws.specs.Laws.{ShownIsAccepted}
 use Rattle.clio_accept.proofs.Accepted.{IsTaken}
 use Rattle.clio_rule_laws.proofs.Shown.{is_accepted, shown_rules_are_read_again}
 use Rattle.clio_rule_laws.proofs.Pruned.{no_test_passes, pruned_again}
