@@ -11,8 +11,8 @@ returns-then-rows-eq1-clause-exact c =
 pub is_held-requires : goal.is_held-requires
 is_held-requires c = c.requires.asked
 
-pub ask-requires-clause-asked : goal.ask-requires-clause-asked
-ask-requires-clause-asked c =
+pub ask_whole-requires : goal.ask_whole-requires
+ask_whole-requires c =
     let s = c.args.self.now in
     same_asked s.numbers c.is_held.new.self.numbers s.taken c.is_held.new.self.taken c.args.task.now.block.now c.args.task.now.known.items c.args.at
     c.is_held.ensures.numbers c.in_ok-is_held.ensures.taken c.requires.asked
@@ -21,4 +21,4 @@ pub returns-clause-exact : goal.returns-clause-exact
 returns-clause-exact c =
     let s = c.args.self.now in
     answer_same s.numbers c.is_held.new.self.numbers s.taken c.is_held.new.self.taken c.args.task.now.block.now.nulls (λ v. v.items)
-    c.in_ok-together.together c.args.task.now.block.now.rows c.args.at c.is_held.ensures.numbers c.in_ok-is_held.ensures.taken (rw c.items-rows.ensures at c.in_ok-together.ensures.exact)
+    c.in_ok-together.together c.args.task.now.block.now.rows c.args.at c.is_held.ensures.numbers c.in_ok-is_held.ensures.taken c.in_ok-together.ensures.exact
