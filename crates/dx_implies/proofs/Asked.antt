@@ -121,7 +121,7 @@ module _ (S : List Value) (ts : List NumberTable) (fit : PartsFit S ts) (freeze 
       fact_from_row I a.table (map (cell_value freeze (λ v. value_of S (f v))) a.cells) row
 
   -- a text that no number stands for is in no row
-  cell_somewhere : (values : ℕ → Value) (a : Atom) (c : Cell) → fact_of_atom freeze values a ∈ facts I → c ∈ a.cells → cell_value freeze values c ∈ S
+  pub cell_somewhere : (values : ℕ → Value) (a : Atom) (c : Cell) → fact_of_atom freeze values a ∈ facts I → c ∈ a.cells → cell_value freeze values c ∈ S
   cell_somewhere values a c m k =
       let t : a.table < length ts = table_there a.table (fact_table I (fact_of_atom freeze values a) m) in
       let r = from_map (shown_row S) (numbers_of_table ts a.table).rows

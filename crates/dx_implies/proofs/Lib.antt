@@ -5,5 +5,6 @@ pub mod Pruned
 pub mod Premises
 pub mod Answered
 mod Asked
+mod Bounds
 pub mod Examples
 pub mod Shown

@@ -1,6 +1,7 @@
 -- The frozen premise of a rule and what others make of it: they satisfy the others, and the rule exactly if it follows.
 use Rattle.std.proofs.Common.{◌≡◌, ◌↔◌, ℕ, ◌<◌, ◌≤◌, Bool, true, false, List, [], ◌∷◌, refl, sym, ◌∙◌, ap, subst, arith}
 use Rattle.std.specs.Prelude.{IsTrue}
+use Rattle.std.proofs.lemmas.Bool.{false≢true}
 use Rattle.dx_base.specs.declared.file.Count.TheVariants.{FrozenCells}
 use Rattle.dx_base.specs.declared.file.Limit.{Limit as LimitOf}
 use Rattle.dx_base.specs.Members.{◌∈◌, ◌≈◌, here, there, Each}
@@ -134,3 +135,10 @@ module _ (apply : Conversions) (source target : Forest) (prefix : Text) (R : Lis
     where
       contradiction : (b : Bool) → b ≡ false → ¬ (IsTrue b)
       contradiction b e t = cc
+
+  -- so they do if the rule does not follow
+  pub not_following : (rows : Rows) (r : Refutation) → r.source ≡ I → AreRows apply R (facts I) rows → facts r.target ≈ canonical 0 R rows
+      → widths I ≡ schema_widths source → widths r.target ≡ schema_widths target → ¬ (Follows apply R d) → IsRefutation prefix source target R d r
+  not_following rows r is are members wide wide_target fails =
+      made_refutes rows r false is are members wide wide_target
+      ((λ y. absurd (false≢true y)), (λ w. absurd (fails (made_follows rows (facts r.target) true are members ((λ y. w), (λ v. refl)) refl apply)))) refl

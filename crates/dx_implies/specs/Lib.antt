@@ -5,3 +5,4 @@ pub mod Near
 pub mod Refuting
 pub mod Asking
 pub mod Testing
+pub mod Bounds

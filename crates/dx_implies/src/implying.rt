@@ -18,9 +18,10 @@ ghost use Rattle.dx_implies.specs.Testing.{IsTestable, PlainRuleFits};
 
 use crate::asking::{above_atoms, atoms_of};
 use crate::between::Between;
+use crate::bounding::make_few;
 use crate::freezing::frozen_with;
 use crate::host::NoConversions;
-use crate::nearby::near_rules;
+use crate::nearby::joined_rules;
 use crate::prefixes::{marks, marks_in};
 use crate::refusing::told_as_frozen;
 use dx_base::{Items, Text};
@@ -62,7 +63,7 @@ fn can_stand(
 
 /// Whether the conclusion of the rule stands in the instance, with the texts of its variables and some values of its
 /// existential variables.
-pub(crate) fn has_conclusion(
+fn has_conclusion(
     alloc: Global,
     rule: &Rule,
     prefix: &Text,
@@ -80,7 +81,7 @@ pub(crate) fn has_conclusion(
 }
 
 /// Makes an index of each column.
-pub(crate) fn index_all(instance: &mut Instance) -> Result<(), AllocError>
+fn index_all(instance: &mut Instance) -> Result<(), AllocError>
     ensures { OnOk result (instance.new ≡ instance.old) }
 {
     for table in 0..instance.tables() {
@@ -130,7 +131,7 @@ pub(crate) fn made_of(
 }
 
 /// Whether the rule follows from those of the others that have no derived variables. The prefix is one with which no literal
-/// begins.
+/// begins. Only those are joined that can add to what the conclusion asks, if the cells of all are within the limit anyway.
 pub(crate) fn follows(
     alloc: Global,
     rule: &Rule,
@@ -145,8 +146,9 @@ pub(crate) fn follows(
     ensures refused { IfErr result (IsFrozenRefusal between.now.limit (PassesFrozen between.now.limit (underived others.now) rule.now)) }
 {
     let premise = frozen_with(alloc, rule, between.prefix, between.source)?;
-    let near = near_rules(alloc, others, &premise)?;
-    match made_of(alloc, near.as_slice(), &premise, between) {
+    let few = make_few(alloc, others, &premise, between.limit)?;
+    let joined = joined_rules(alloc, others, &premise, rule.conclusion.items(), !few)?;
+    match made_of(alloc, joined.as_slice(), &premise, between) {
         Ok(made) => Ok(stands_in(alloc, rule, between.prefix, made.instance)?),
         Err(fault) => Err(told_as_frozen(fault)),
     }

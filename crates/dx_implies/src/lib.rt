@@ -12,6 +12,7 @@
 
 mod asking;
 mod between;
+mod bounding;
 mod copying;
 mod freezing;
 mod host;

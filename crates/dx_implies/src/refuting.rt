@@ -9,7 +9,7 @@ ghost use Rattle.dx_implies.specs.Testing.{IsPlainTestable};
 
 use crate::between::Between;
 use crate::freezing::frozen_with;
-use crate::implying::{has_conclusion, index_all, made_of};
+use crate::implying::{follows, made_of};
 use crate::refusing::told_as_frozen;
 use dx_instance::Instance;
 use dx_model::Rule;
@@ -45,20 +45,15 @@ pub fn refuted(
     ensures within { OnOk result (¬ (PassesFrozen between.now.limit others.now rule.now)) }
     ensures refused { IfErr result (IsFrozenRefusal between.now.limit (PassesFrozen between.now.limit others.now rule.now)) }
 {
+    if follows(alloc, rule, others, between)? {
+        return Ok(None);
+    }
     let premise = frozen_with(alloc, rule, between.prefix, between.source)?;
     match made_of(alloc, others, &premise, between) {
-        Ok(made) => {
-            let mut made_target = made.instance;
-            index_all(&mut made_target)?;
-            let stands = has_conclusion(alloc, rule, between.prefix, &made_target)?;
-            if stands {
-                return Ok(None);
-            }
-            Ok(Some(Refutation {
-                source: premise,
-                target: made_target,
-            }))
-        }
+        Ok(made) => Ok(Some(Refutation {
+            source: premise,
+            target: made.instance,
+        })),
         Err(fault) => Err(told_as_frozen(fault)),
     }
 }

@@ -1,8 +1,12 @@
-use Rattle.std.proofs.Common.{[], refl}
+use Rattle.std.proofs.Common.{[], ◌∙◌, List, refl, subst, sym}
+use Rattle.std.proofs.lemmas.Bool.{true≢false}
 use Rattle.std.proofs.lemmas.Result.{err_from_is_err_and}
-use Rattle.dx_base.specs.Members.{here}
-use Rattle.dx_instance.specs.Stored.{facts, widths}
-use Rattle.dx_implies.proofs.Shown.{all_fit, clean_of, fits_of, indexed, made_follows, made_refused, made_refutes, made_within, plain_of, rule_concludes}
+use Rattle.dx_base.specs.Members.{here, there}
+use Rattle.dx_model.specs.declared.rules.Rule.{Rule}
+use Rattle.dx_model.specs.Following.{Follows}
+use Rattle.dx_implies.specs.Frozen.{IsFrozenRefusal, PassesFrozen}
+use Rattle.dx_implies.proofs.Plain.{all_underived}
+use Rattle.dx_implies.proofs.Shown.{all_fit, clean_of, fits_of, made_refused, not_following, plain_of}
 use Rattle.dx_implies.proofs.refuting.refuted.Goals as goal
 
 pub frozen_with-requires-clause-rule : goal.frozen_with-requires-clause-rule
@@ -11,50 +15,45 @@ frozen_with-requires-clause-rule c = (c.requires.rules c.args.rule.now (here ref
 pub frozen_with-requires-clause-premise : goal.frozen_with-requires-clause-premise
 frozen_with-requires-clause-premise c = (c.requires.rules c.args.rule.now (here refl)).fits.premise
 
+pub follows-requires-clause-rules : goal.follows-requires-clause-rules
+follows-requires-clause-rules c = λ d m. record { fits = (c.requires.rules d m).fits; clean = (c.requires.rules d m).clean }
+
+pub follows-requires-clause-plain : goal.follows-requires-clause-plain
+follows-requires-clause-plain c = (c.requires.rules c.args.rule.now (here refl)).plain
+
+pub returns-in_err-follows-clause-refused : goal.returns-in_err-follows-clause-refused
+returns-in_err-follows-clause-refused c =
+    let e = err_from_is_err_and c.from_residual.result c.from_residual.ensures.1 in
+    rw (e.1, e.2) (subst (λ (U : List Rule). IsFrozenRefusal c.args.between.now.limit (PassesFrozen c.args.between.now.limit U c.args.rule.now) c.in_err-follows.field-0.0)
+    (all_underived c.args.others.now (λ r m. (c.requires.rules r (there m)).plain)) c.in_err-follows.ensures.refused)
+
+pub returns-then-branch-clause-follows : goal.returns-then-branch-clause-follows
+returns-then-branch-clause-follows c = λ convert.
+    subst (λ (U : List Rule). Follows convert U c.args.rule.now) (all_underived c.args.others.now (λ r m. (c.requires.rules r (there m)).plain))
+    ((c.in_ok-follows.ensures.follows convert).0 c.if-branch.true)
+
+pub returns-then-branch-clause-within : goal.returns-then-branch-clause-within
+returns-then-branch-clause-within c =
+    subst (λ (U : List Rule). ¬ (PassesFrozen c.args.between.now.limit U c.args.rule.now)) (all_underived c.args.others.now (λ r m. (c.requires.rules r (there m)).plain)) c.in_ok-follows.ensures.within
+
 pub made_of-requires-clause-rules : goal.made_of-requires-clause-rules
 made_of-requires-clause-rules c =
     all_fit c.args.between.now c.args.others.now c.args.rule.now c.in_ok-premise.premise c.requires.rules c.in_ok-premise.ensures.widths
 
-pub has_conclusion-requires : goal.has_conclusion-requires
-has_conclusion-requires c =
-    let same = indexed c.in-Ok.made.instance c.index_all.new.instance _ _ c.in_ok-index_all-in-Ok.ensures c.in-Ok.ensures.facts c.in-Ok.ensures.widths in
-    rule_concludes c.args.between.now c.args.others.now c.args.rule.now c.in_ok-premise.premise c.requires.rules c.in_ok-premise.ensures.widths
-    (widths c.index_all.new.instance) same.1
+pub returns-in-Ok-clause-refuted : goal.returns-in-Ok-clause-refuted
+returns-in-Ok-clause-refuted c =
+    not_following (λ _ _. []) c.args.between.now.source.now c.args.between.now.target.now c.args.between.now.prefix.now c.args.others.now c.args.rule.now c.in_ok-premise.premise (fits_of c.requires.rules) (plain_of c.requires.rules) (clean_of c.requires.rules) c.in_ok-premise.ensures.facts
+    c.in-Ok.made.matches (record { source = c.in_ok-premise.premise; target = c.in-Ok.made.instance }) refl c.in-Ok.ensures.matches c.in-Ok.ensures.facts
+    c.in_ok-premise.ensures.widths c.in-Ok.ensures.widths
+    (λ f.
+    let all = subst (λ (U : List Rule). Follows (λ _ _. []) U c.args.rule.now) (sym (all_underived c.args.others.now (λ r m. (c.requires.rules r (there m)).plain))) f in
+    true≢false (sym ((c.in_ok-follows.ensures.follows (λ _ _. [])).1 all) ∙ c.if-branch.false))
 
-pub returns-then-stands-clause-follows : goal.returns-then-stands-clause-follows
-returns-then-stands-clause-follows c =
-    let same = indexed c.in-Ok.made.instance c.index_all.new.instance _ _ c.in_ok-index_all-in-Ok.ensures c.in-Ok.ensures.facts c.in-Ok.ensures.widths in
-    made_follows (λ _ _. []) c.args.between.now.source.now c.args.between.now.target.now c.args.between.now.prefix.now c.args.others.now c.args.rule.now c.in_ok-premise.premise (fits_of c.requires.rules) (plain_of c.requires.rules) (clean_of c.requires.rules) c.in_ok-premise.ensures.facts
-    c.in-Ok.made.matches (facts c.index_all.new.instance) c.in_ok-stands-in-Ok.stands c.in-Ok.ensures.matches same.0 c.in_ok-stands-in-Ok.ensures c.if-stands.true
-
-pub returns-then-stands-clause-within : goal.returns-then-stands-clause-within
-returns-then-stands-clause-within c =
-    made_within (λ _ _. []) c.args.between.now.source.now c.args.between.now.target.now c.args.between.now.prefix.now c.args.others.now c.args.rule.now c.in_ok-premise.premise (fits_of c.requires.rules) (plain_of c.requires.rules) (clean_of c.requires.rules) c.in_ok-premise.ensures.facts
-    c.in-Ok.made.matches c.args.between.now.limit c.in-Ok.ensures.matches c.in-Ok.ensures.within
-
-pub returns-else-stands-clause-refuted : goal.returns-else-stands-clause-refuted
-returns-else-stands-clause-refuted c =
-    let same = indexed c.in-Ok.made.instance c.index_all.new.instance _ _ c.in_ok-index_all-in-Ok.ensures c.in-Ok.ensures.facts c.in-Ok.ensures.widths in
-    made_refutes (λ _ _. []) c.args.between.now.source.now c.args.between.now.target.now c.args.between.now.prefix.now c.args.others.now c.args.rule.now c.in_ok-premise.premise (fits_of c.requires.rules) (plain_of c.requires.rules) (clean_of c.requires.rules) c.in_ok-premise.ensures.facts
-    c.in-Ok.made.matches (record { source = c.in_ok-premise.premise; target = c.index_all.new.instance }) c.in_ok-stands-in-Ok.stands refl c.in-Ok.ensures.matches same.0
-    c.in_ok-premise.ensures.widths same.1 c.in_ok-stands-in-Ok.ensures c.if-stands.false
-
-pub returns-else-stands-clause-within : goal.returns-else-stands-clause-within
-returns-else-stands-clause-within c =
-    made_within (λ _ _. []) c.args.between.now.source.now c.args.between.now.target.now c.args.between.now.prefix.now c.args.others.now c.args.rule.now c.in_ok-premise.premise (fits_of c.requires.rules) (plain_of c.requires.rules) (clean_of c.requires.rules) c.in_ok-premise.ensures.facts
-    c.in-Ok.made.matches c.args.between.now.limit c.in-Ok.ensures.matches c.in-Ok.ensures.within
+pub returns-in-Ok-clause-within : goal.returns-in-Ok-clause-within
+returns-in-Ok-clause-within c =
+    subst (λ (U : List Rule). ¬ (PassesFrozen c.args.between.now.limit U c.args.rule.now)) (all_underived c.args.others.now (λ r m. (c.requires.rules r (there m)).plain)) c.in_ok-follows.ensures.within
 
 pub returns-in-Err-clause-refused : goal.returns-in-Err-clause-refused
 returns-in-Err-clause-refused c =
     made_refused (λ _ _. []) c.args.between.now.source.now c.args.between.now.target.now c.args.between.now.prefix.now c.args.others.now c.args.rule.now c.in_ok-premise.premise (fits_of c.requires.rules) (plain_of c.requires.rules) (clean_of c.requires.rules) c.in_ok-premise.ensures.facts
     c.args.between.now.limit c.in-Err.fault c.told_as_frozen.result c.in-Err.ensures.refused c.told_as_frozen.ensures
-
-pub returns-in_err-index_all-in-Ok-clause-refused : goal.returns-in_err-index_all-in-Ok-clause-refused
-returns-in_err-index_all-in-Ok-clause-refused c =
-    let e = err_from_is_err_and c.from_residual-in_err-index_all-in-Ok.result c.from_residual-in_err-index_all-in-Ok.ensures.1 in
-    rw (e.1, e.2) tt
-
-pub returns-in_err-stands-in-Ok-clause-refused : goal.returns-in_err-stands-in-Ok-clause-refused
-returns-in_err-stands-in-Ok-clause-refused c =
-    let e = err_from_is_err_and c.from_residual-in_err-stands-in-Ok.result c.from_residual-in_err-stands-in-Ok.ensures.1 in
-    rw (e.1, e.2) tt
