@@ -4,7 +4,7 @@ ghost use Rattle.dx_grammar.specs.Lists.{past, list_reader};
 ghost use Rattle.dx_script_text.specs.Grammar.{is_comma};
 ghost use Rattle.dx_script_text.specs.Reading.{declared_reader, create_reader};
 
-use crate::tokens::{any_of, next_of};
+use crate::tokens::{after, any_of, next_of};
 use dx_base::{Items, Text};
 use dx_grammar::ReadError;
 use dx_script::Step;
@@ -16,14 +16,14 @@ fn declared(tokens: &[ScriptToken]) -> Result<(Text, &[ScriptToken]), ReadError>
     ensures { ReadsAs (λ x. (x.0, x.1.now)) result (declared_reader tokens.now) }
 {
     let (name, rest) = any_of(tokens, ScriptKind::Name)?;
-    let (_, rest) = any_of(rest, ScriptKind::Type)?;
+    let rest = after(rest, ScriptKind::Type)?;
     Ok((name.text.copy()?, rest))
 }
 
 fn comma_declared(tokens: &[ScriptToken]) -> Result<(Text, &[ScriptToken]), ReadError>
     ensures { ReadsAs (λ x. (x.0, x.1.now)) result (past is_comma declared_reader tokens.now) }
 {
-    let (_, rest) = any_of(tokens, ScriptKind::Comma)?;
+    let rest = after(tokens, ScriptKind::Comma)?;
     declared(rest)
 }
 
@@ -64,13 +64,13 @@ pub(crate) fn create(
 ) -> Result<(Step, &[ScriptToken]), ReadError>
     ensures { ReadsAs (λ x. (x.0, x.1.now)) result (create_reader tokens.now) }
 {
-    let (_, rest) = any_of(tokens, ScriptKind::Target)?;
-    let (_, rest) = any_of(rest, ScriptKind::Dot)?;
+    let rest = after(tokens, ScriptKind::Target)?;
+    let rest = after(rest, ScriptKind::Dot)?;
     let (table, rest) = any_of(rest, ScriptKind::Name)?;
-    let (_, rest) = any_of(rest, ScriptKind::Open)?;
+    let rest = after(rest, ScriptKind::Open)?;
     let (columns, rest) = columns(alloc, rest)?;
-    let (_, rest) = any_of(rest, ScriptKind::Close)?;
-    let (_, rest) = any_of(rest, ScriptKind::Semicolon)?;
+    let rest = after(rest, ScriptKind::Close)?;
+    let rest = after(rest, ScriptKind::Semicolon)?;
     let step = Step::Create {
         table: table.text.copy()?,
         columns,

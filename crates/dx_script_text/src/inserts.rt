@@ -5,7 +5,7 @@ ghost use Rattle.dx_script_tokens.specs.Numbers.{greatest_number};
 ghost use Rattle.dx_script_text.specs.Grammar.{is_comma};
 ghost use Rattle.dx_script_text.specs.Reading.{text_out_reader, column_out_reader, skolem_tail_reader, skolem_reader, out_reader, comma_out, outs_reader, insert_end_reader, insert_tail_reader, insert_reader};
 
-use crate::tokens::{any_of, is_of, next_of, rule_of, table_of};
+use crate::tokens::{after, any_of, is_of, next_of, rule_of, table_of};
 use dx_base::{Items, Text};
 use dx_grammar::ReadError;
 use dx_script::{Out, Step};
@@ -24,8 +24,8 @@ fn text_out(tokens: &[ScriptToken]) -> Result<(Out, &[ScriptToken]), ReadError>
 fn column_out(tokens: &[ScriptToken]) -> Result<(Out, &[ScriptToken]), ReadError>
     ensures { ReadsAs (λ x. (x.0, x.1.now)) result (column_out_reader tokens.now) }
 {
-    let (_, rest) = any_of(tokens, ScriptKind::Own)?;
-    let (_, rest) = any_of(rest, ScriptKind::Dot)?;
+    let rest = after(tokens, ScriptKind::Own)?;
+    let rest = after(rest, ScriptKind::Dot)?;
     let (column, rest) = any_of(rest, ScriptKind::Column)?;
     Ok((Out::Column(column.number), rest))
 }
@@ -34,13 +34,13 @@ fn column_out(tokens: &[ScriptToken]) -> Result<(Out, &[ScriptToken]), ReadError
 fn skolem_tail(tokens: &[ScriptToken]) -> Result<(u32, &[ScriptToken]), ReadError>
     ensures { ReadsAs (λ x. (x.0, x.1.now)) result (skolem_tail_reader tokens.now) }
 {
-    let (_, rest) = any_of(tokens, ScriptKind::Comma)?;
+    let rest = after(tokens, ScriptKind::Comma)?;
     let (variable, rest) = any_of(rest, ScriptKind::Number)?;
-    let (_, rest) = any_of(rest, ScriptKind::Comma)?;
-    let (_, rest) = any_of(rest, ScriptKind::Own)?;
-    let (_, rest) = any_of(rest, ScriptKind::Dot)?;
-    let (_, rest) = any_of(rest, ScriptKind::Place)?;
-    let (_, rest) = any_of(rest, ScriptKind::Close)?;
+    let rest = after(rest, ScriptKind::Comma)?;
+    let rest = after(rest, ScriptKind::Own)?;
+    let rest = after(rest, ScriptKind::Dot)?;
+    let rest = after(rest, ScriptKind::Place)?;
+    let rest = after(rest, ScriptKind::Close)?;
     Ok((variable.number, rest))
 }
 
@@ -51,8 +51,8 @@ fn skolem_out(
 ) -> Result<(Out, Option<u32>, &[ScriptToken]), ReadError>
     ensures { ReadsAs (λ x. ((x.0, x.1), x.2.now)) result (skolem_reader greatest_number known tokens.now) }
 {
-    let (_, rest) = any_of(tokens, ScriptKind::Skolem)?;
-    let (_, rest) = any_of(rest, ScriptKind::Open)?;
+    let rest = after(tokens, ScriptKind::Skolem)?;
+    let rest = after(rest, ScriptKind::Open)?;
     let (rule, rest) = rule_of(rest, ScriptKind::Number, known)?;
     let (variable, rest) = skolem_tail(rest)?;
     Ok((Out::Skolem(variable), Some(rule.number), rest))
@@ -101,7 +101,7 @@ fn next_out(
 ) -> Result<(Out, Option<u32>, &[ScriptToken]), ReadError>
     ensures { ReadsAs (λ x. ((x.0, x.1), x.2.now)) result (comma_out greatest_number known tokens.now) }
 {
-    let (_, rest) = any_of(tokens, ScriptKind::Comma)?;
+    let rest = after(tokens, ScriptKind::Comma)?;
     out(known, rest)
 }
 
@@ -140,14 +140,15 @@ fn outs(
     more_outs(all, known, rest)
 }
 
+// What is left after the end of a step that inserts facts.
 #[tactic(auto, unfolding(crate::specs::Reading::insert_end_reader))]
-fn insert_end(tokens: &[ScriptToken]) -> Result<((), &[ScriptToken]), ReadError>
-    ensures { ReadsAs (λ x. (x.0, x.1.now)) result (insert_end_reader tokens.now) }
+fn after_end(tokens: &[ScriptToken]) -> Result<&[ScriptToken], ReadError>
+    ensures { ReadsAs (λ x. (tt, x.now)) result (insert_end_reader tokens.now) }
 {
-    let (_, rest) = any_of(tokens, ScriptKind::As)?;
-    let (_, rest) = any_of(rest, ScriptKind::Own)?;
-    let (_, rest) = any_of(rest, ScriptKind::Semicolon)?;
-    Ok(((), rest))
+    let rest = after(tokens, ScriptKind::As)?;
+    let rest = after(rest, ScriptKind::Own)?;
+    let rest = after(rest, ScriptKind::Semicolon)?;
+    Ok(rest)
 }
 
 #[tactic(auto, unfolding(crate::specs::Reading::insert_tail_reader))]
@@ -160,9 +161,9 @@ fn insert_tail(
     ensures { ReadsAs (λ x. ((x.0, x.1), x.2.now)) result (insert_tail_reader greatest_number table known tokens.now) }
 {
     let (cells, known, rest) = outs(alloc, known, tokens)?;
-    let (_, rest) = any_of(rest, ScriptKind::From)?;
+    let rest = after(rest, ScriptKind::From)?;
     let (from, rest) = table_of(rest, known)?;
-    let (_, rest) = insert_end(rest)?;
+    let rest = after_end(rest)?;
     let step = Step::InsertRows {
         table,
         rule: from.number,
@@ -180,12 +181,12 @@ pub(crate) fn insert_rows(
 ) -> Result<(Step, &[ScriptToken]), ReadError>
     ensures { ReadsAs (λ x. (x.0, x.1.now)) result (insert_reader greatest_number tokens.now) }
 {
-    let (_, rest) = any_of(tokens, ScriptKind::Insert)?;
-    let (_, rest) = any_of(rest, ScriptKind::Into)?;
-    let (_, rest) = any_of(rest, ScriptKind::Target)?;
-    let (_, rest) = any_of(rest, ScriptKind::Dot)?;
+    let rest = after(tokens, ScriptKind::Insert)?;
+    let rest = after(rest, ScriptKind::Into)?;
+    let rest = after(rest, ScriptKind::Target)?;
+    let rest = after(rest, ScriptKind::Dot)?;
     let (table, rest) = any_of(rest, ScriptKind::Name)?;
-    let (_, rest) = any_of(rest, ScriptKind::Select)?;
+    let rest = after(rest, ScriptKind::Select)?;
     let (step, _, rest) = insert_tail(alloc, table.text.copy()?, None, rest)?;
     Ok((step, rest))
 }

@@ -5,7 +5,7 @@ ghost use Rattle.dx_script_tokens.specs.Numbers.{greatest_number};
 ghost use Rattle.dx_script_text.specs.Grammar.{is_and};
 ghost use Rattle.dx_script_text.specs.Reading.{columns_reader, text_reader, test_reader, tests_reader, optional_tests, unless_reader, keep_tail_reader, keep_reader};
 
-use crate::tokens::{any_of, next_of, rule_of, that};
+use crate::tokens::{after, after_that, any_of, next_of, rule_of};
 use dx_base::Items;
 use dx_grammar::ReadError;
 use dx_script::{Step, Test, Unless};
@@ -16,12 +16,12 @@ use std::alloc::Global;
 fn columns_test(tokens: &[ScriptToken]) -> Result<(Test, &[ScriptToken]), ReadError>
     ensures { ReadsAs (λ x. (x.0, x.1.now)) result (columns_reader tokens.now) }
 {
-    let (_, rest) = any_of(tokens, ScriptKind::Other)?;
-    let (_, rest) = any_of(rest, ScriptKind::Dot)?;
+    let rest = after(tokens, ScriptKind::Other)?;
+    let rest = after(rest, ScriptKind::Dot)?;
     let (other, rest) = any_of(rest, ScriptKind::Column)?;
-    let (_, rest) = any_of(rest, ScriptKind::Equal)?;
-    let (_, rest) = any_of(rest, ScriptKind::Own)?;
-    let (_, rest) = any_of(rest, ScriptKind::Dot)?;
+    let rest = after(rest, ScriptKind::Equal)?;
+    let rest = after(rest, ScriptKind::Own)?;
+    let rest = after(rest, ScriptKind::Dot)?;
     let (own, rest) = any_of(rest, ScriptKind::Column)?;
     let test = Test::Columns {
         other: other.number,
@@ -34,10 +34,10 @@ fn columns_test(tokens: &[ScriptToken]) -> Result<(Test, &[ScriptToken]), ReadEr
 fn text_test(tokens: &[ScriptToken]) -> Result<(Test, &[ScriptToken]), ReadError>
     ensures { ReadsAs (λ x. (x.0, x.1.now)) result (text_reader tokens.now) }
 {
-    let (_, rest) = any_of(tokens, ScriptKind::Own)?;
-    let (_, rest) = any_of(rest, ScriptKind::Dot)?;
+    let rest = after(tokens, ScriptKind::Own)?;
+    let rest = after(rest, ScriptKind::Dot)?;
     let (own, rest) = any_of(rest, ScriptKind::Column)?;
-    let (_, rest) = any_of(rest, ScriptKind::Equal)?;
+    let rest = after(rest, ScriptKind::Equal)?;
     let (text, rest) = any_of(rest, ScriptKind::Text)?;
     let test = Test::Literal {
         own: own.number,
@@ -60,7 +60,7 @@ fn test(tokens: &[ScriptToken]) -> Result<(Test, &[ScriptToken]), ReadError>
 fn and_test(tokens: &[ScriptToken]) -> Result<(Test, &[ScriptToken]), ReadError>
     ensures { ReadsAs (λ x. (x.0, x.1.now)) result (past is_and test_reader tokens.now) }
 {
-    let (_, rest) = any_of(tokens, ScriptKind::And)?;
+    let rest = after(tokens, ScriptKind::And)?;
     test(rest)
 }
 
@@ -85,7 +85,7 @@ fn more_tests(
 fn tests(alloc: Global, tokens: &[ScriptToken]) -> Result<(Items<Test>, &[ScriptToken]), ReadError>
     ensures { ReadsAs (λ x. (x.0, x.1.now)) result (tests_reader tokens.now) }
 {
-    let (_, rest) = any_of(tokens, ScriptKind::Where)?;
+    let rest = after(tokens, ScriptKind::Where)?;
     let (first, rest) = test(rest)?;
     let mut all = Items::new(alloc);
     all.push(first)?;
@@ -110,17 +110,17 @@ fn where_tests(
 fn unless(alloc: Global, tokens: &[ScriptToken]) -> Result<(Unless, &[ScriptToken]), ReadError>
     ensures { ReadsAs (λ x. (x.0, x.1.now)) result (unless_reader tokens.now) }
 {
-    let (_, rest) = any_of(tokens, ScriptKind::Not)?;
-    let (_, rest) = any_of(rest, ScriptKind::Exists)?;
-    let (_, rest) = any_of(rest, ScriptKind::Open)?;
-    let (_, rest) = any_of(rest, ScriptKind::Select)?;
-    let (_, rest) = any_of(rest, ScriptKind::Star)?;
-    let (_, rest) = any_of(rest, ScriptKind::From)?;
+    let rest = after(tokens, ScriptKind::Not)?;
+    let rest = after(rest, ScriptKind::Exists)?;
+    let rest = after(rest, ScriptKind::Open)?;
+    let rest = after(rest, ScriptKind::Select)?;
+    let rest = after(rest, ScriptKind::Star)?;
+    let rest = after(rest, ScriptKind::From)?;
     let (table, rest) = any_of(rest, ScriptKind::Match)?;
-    let (_, rest) = any_of(rest, ScriptKind::As)?;
-    let (_, rest) = any_of(rest, ScriptKind::Other)?;
+    let rest = after(rest, ScriptKind::As)?;
+    let rest = after(rest, ScriptKind::Other)?;
     let (tests, rest) = where_tests(alloc, rest)?;
-    let (_, rest) = any_of(rest, ScriptKind::Close)?;
+    let rest = after(rest, ScriptKind::Close)?;
     let unless = Unless {
         rule: table.number,
         tests,
@@ -131,7 +131,7 @@ fn unless(alloc: Global, tokens: &[ScriptToken]) -> Result<(Unless, &[ScriptToke
 fn and_unless(alloc: Global, tokens: &[ScriptToken]) -> Result<(Unless, &[ScriptToken]), ReadError>
     ensures { ReadsAs (λ x. (x.0, x.1.now)) result (past is_and unless_reader tokens.now) }
 {
-    let (_, rest) = any_of(tokens, ScriptKind::And)?;
+    let rest = after(tokens, ScriptKind::And)?;
     unless(alloc, rest)
 }
 
@@ -173,16 +173,16 @@ fn keep_tail(
 ) -> Result<(Step, &[ScriptToken]), ReadError>
     ensures { ReadsAs (λ x. (x.0, x.1.now)) result (keep_tail_reader rule tokens.now) }
 {
-    let (_, rest) = any_of(tokens, ScriptKind::As)?;
-    let (_, rest) = any_of(rest, ScriptKind::Select)?;
-    let (_, rest) = any_of(rest, ScriptKind::Star)?;
-    let (_, rest) = any_of(rest, ScriptKind::From)?;
-    let (_, rest) = that(rest, ScriptKind::Match, rule)?;
-    let (_, rest) = any_of(rest, ScriptKind::As)?;
-    let (_, rest) = any_of(rest, ScriptKind::Own)?;
-    let (_, rest) = any_of(rest, ScriptKind::Where)?;
+    let rest = after(tokens, ScriptKind::As)?;
+    let rest = after(rest, ScriptKind::Select)?;
+    let rest = after(rest, ScriptKind::Star)?;
+    let rest = after(rest, ScriptKind::From)?;
+    let rest = after_that(rest, ScriptKind::Match, rule)?;
+    let rest = after(rest, ScriptKind::As)?;
+    let rest = after(rest, ScriptKind::Own)?;
+    let rest = after(rest, ScriptKind::Where)?;
     let (unless, rest) = all_unless(alloc, rest)?;
-    let (_, rest) = any_of(rest, ScriptKind::Semicolon)?;
+    let rest = after(rest, ScriptKind::Semicolon)?;
     Ok((Step::KeepRows { rule, unless }, rest))
 }
 

@@ -7,7 +7,7 @@ ghost use Rattle.dx_script_tokens.specs.Numbers.{greatest_number};
 ghost use Rattle.dx_script_text.specs.Grammar.{is_comma, is_and};
 ghost use Rattle.dx_script_text.specs.Reading.{alias_cell_reader, select_call_reader, cell_value_reader, value_reader, select_item_reader, comma_item, items_reader, no_items, select_reader, from_source_reader, comma_source, sources_reader, and_counted, equal_reader, equals_reader, where_clause_reader, match_step_of, matched_reader, match_reader};
 
-use crate::tokens::{any_of, next_counts, next_has, next_of, that};
+use crate::tokens::{after, after_that, any_of, next_counts, next_has, next_of};
 use dx_base::{Items, Text};
 use dx_grammar::ReadError;
 use dx_script::{CellRef, Equal, Select, Step};
@@ -19,7 +19,7 @@ fn cell(tokens: &[ScriptToken]) -> Result<(CellRef, &[ScriptToken]), ReadError>
     ensures { ReadsAs (λ x. (x.0, x.1.now)) result (alias_cell_reader tokens.now) }
 {
     let (alias, rest) = any_of(tokens, ScriptKind::Alias)?;
-    let (_, rest) = any_of(rest, ScriptKind::Dot)?;
+    let rest = after(rest, ScriptKind::Dot)?;
     let (column, rest) = any_of(rest, ScriptKind::Name)?;
     let cell = CellRef {
         alias: alias.number,
@@ -31,7 +31,7 @@ fn cell(tokens: &[ScriptToken]) -> Result<(CellRef, &[ScriptToken]), ReadError>
 fn comma_cell(tokens: &[ScriptToken]) -> Result<(CellRef, &[ScriptToken]), ReadError>
     ensures { ReadsAs (λ x. (x.0, x.1.now)) result (past is_comma alias_cell_reader tokens.now) }
 {
-    let (_, rest) = any_of(tokens, ScriptKind::Comma)?;
+    let rest = after(tokens, ScriptKind::Comma)?;
     cell(rest)
 }
 
@@ -69,9 +69,9 @@ fn call(alloc: Global, tokens: &[ScriptToken]) -> Result<(Select, &[ScriptToken]
     ensures { ReadsAs (λ x. (x.0, x.1.now)) result (select_call_reader tokens.now) }
 {
     let (name, rest) = any_of(tokens, ScriptKind::Name)?;
-    let (_, rest) = any_of(rest, ScriptKind::Open)?;
+    let rest = after(rest, ScriptKind::Open)?;
     let (args, rest) = cells(alloc, rest)?;
-    let (_, rest) = any_of(rest, ScriptKind::Close)?;
+    let rest = after(rest, ScriptKind::Close)?;
     let select = Select::Call {
         name: name.text.copy()?,
         args,
@@ -107,8 +107,8 @@ fn item(
     ensures { ReadsAs (λ x. (x.0, x.1.now)) result (select_item_reader number tokens.now) }
 {
     let (value, rest) = value(alloc, tokens)?;
-    let (_, rest) = any_of(rest, ScriptKind::As)?;
-    let (_, rest) = that(rest, ScriptKind::Column, number)?;
+    let rest = after(rest, ScriptKind::As)?;
+    let rest = after_that(rest, ScriptKind::Column, number)?;
     Ok((value, rest))
 }
 
@@ -120,7 +120,7 @@ fn next_item(
 ) -> Result<(Select, &[ScriptToken]), ReadError>
     ensures { ReadsAs (λ x. (x.0, x.1.now)) result (comma_item number tokens.now) }
 {
-    let (_, rest) = any_of(tokens, ScriptKind::Comma)?;
+    let rest = after(tokens, ScriptKind::Comma)?;
     item(alloc, number, rest)
 }
 
@@ -162,7 +162,7 @@ fn no_item(
 ) -> Result<(Items<Select>, &[ScriptToken]), ReadError>
     ensures { ReadsAs (λ x. (x.0, x.1.now)) result (no_items tokens.now) }
 {
-    let (_, rest) = that(tokens, ScriptKind::Number, 1)?;
+    let rest = after_that(tokens, ScriptKind::Number, 1)?;
     Ok((Items::new(alloc), rest))
 }
 
@@ -184,11 +184,11 @@ fn select(
 fn source(number: u32, tokens: &[ScriptToken]) -> Result<(Text, &[ScriptToken]), ReadError>
     ensures { ReadsAs (λ x. (x.0, x.1.now)) result (from_source_reader number tokens.now) }
 {
-    let (_, rest) = any_of(tokens, ScriptKind::Source)?;
-    let (_, rest) = any_of(rest, ScriptKind::Dot)?;
+    let rest = after(tokens, ScriptKind::Source)?;
+    let rest = after(rest, ScriptKind::Dot)?;
     let (table, rest) = any_of(rest, ScriptKind::Name)?;
-    let (_, rest) = any_of(rest, ScriptKind::As)?;
-    let (_, rest) = that(rest, ScriptKind::Alias, number)?;
+    let rest = after(rest, ScriptKind::As)?;
+    let rest = after_that(rest, ScriptKind::Alias, number)?;
     Ok((table.text.copy()?, rest))
 }
 
@@ -196,7 +196,7 @@ fn source(number: u32, tokens: &[ScriptToken]) -> Result<(Text, &[ScriptToken]),
 fn next_source(number: u32, tokens: &[ScriptToken]) -> Result<(Text, &[ScriptToken]), ReadError>
     ensures { ReadsAs (λ x. (x.0, x.1.now)) result (comma_source number tokens.now) }
 {
-    let (_, rest) = any_of(tokens, ScriptKind::Comma)?;
+    let rest = after(tokens, ScriptKind::Comma)?;
     source(number, rest)
 }
 
@@ -235,7 +235,7 @@ fn equal(tokens: &[ScriptToken]) -> Result<(Equal, &[ScriptToken]), ReadError>
     ensures { ReadsAs (λ x. (x.0, x.1.now)) result (equal_reader tokens.now) }
 {
     let (left, rest) = cell(tokens)?;
-    let (_, rest) = any_of(rest, ScriptKind::Equal)?;
+    let rest = after(rest, ScriptKind::Equal)?;
     let (right, rest) = cell(rest)?;
     Ok((Equal { left, right }, rest))
 }
@@ -243,7 +243,7 @@ fn equal(tokens: &[ScriptToken]) -> Result<(Equal, &[ScriptToken]), ReadError>
 fn and_equal(tokens: &[ScriptToken]) -> Result<(Equal, &[ScriptToken]), ReadError>
     ensures { ReadsAs (λ x. (x.0, x.1.now)) result (past is_and equal_reader tokens.now) }
 {
-    let (_, rest) = any_of(tokens, ScriptKind::And)?;
+    let rest = after(tokens, ScriptKind::And)?;
     equal(rest)
 }
 
@@ -271,7 +271,7 @@ fn equals(
 ) -> Result<(Items<Equal>, &[ScriptToken]), ReadError>
     ensures { ReadsAs (λ x. (x.0, x.1.now)) result (equals_reader tokens.now) }
 {
-    let (_, rest) = any_of(tokens, ScriptKind::Where)?;
+    let rest = after(tokens, ScriptKind::Where)?;
     let (first, rest) = equal(rest)?;
     let mut all = Items::new(alloc);
     all.push(first)?;
@@ -303,7 +303,7 @@ fn matched(
 {
     let (sources, rest) = sources(alloc, tokens)?;
     let (equal, rest) = where_part(alloc, rest)?;
-    let (_, rest) = any_of(rest, ScriptKind::Semicolon)?;
+    let rest = after(rest, ScriptKind::Semicolon)?;
     Ok((sources, equal, rest))
 }
 
@@ -316,11 +316,11 @@ pub(crate) fn match_rows(
     ensures { ReadsAs (λ x. (x.0, x.1.now)) result (match_reader greatest_number tokens.now) }
 {
     let (table, rest) = any_of(tokens, ScriptKind::Match)?;
-    let (_, rest) = any_of(rest, ScriptKind::As)?;
-    let (_, rest) = any_of(rest, ScriptKind::Select)?;
-    let (_, rest) = any_of(rest, ScriptKind::Distinct)?;
+    let rest = after(rest, ScriptKind::As)?;
+    let rest = after(rest, ScriptKind::Select)?;
+    let rest = after(rest, ScriptKind::Distinct)?;
     let (select, rest) = select(alloc, rest)?;
-    let (_, rest) = any_of(rest, ScriptKind::From)?;
+    let rest = after(rest, ScriptKind::From)?;
     let (sources, equal, rest) = matched(alloc, rest)?;
     let step = Step::MatchRows {
         rule: table.number,

@@ -12,7 +12,7 @@ use crate::creates::create;
 use crate::inserts::insert_rows;
 use crate::keeps::keep_rows;
 use crate::matches::match_rows;
-use crate::tokens::{any_of, next_of};
+use crate::tokens::{after, next_of};
 use dx_base::Items;
 use dx_grammar::{ReadError, nothing_left};
 use dx_script::{Script, Step};
@@ -37,8 +37,8 @@ fn table(alloc: Global, tokens: &[ScriptToken]) -> Result<(Step, &[ScriptToken])
 fn created(alloc: Global, tokens: &[ScriptToken]) -> Result<(Step, &[ScriptToken]), ReadError>
     ensures { ReadsAs (λ x. (x.0, x.1.now)) result (created_reader greatest_number tokens.now) }
 {
-    let (_, rest) = any_of(tokens, ScriptKind::Create)?;
-    let (_, rest) = any_of(rest, ScriptKind::Table)?;
+    let rest = after(tokens, ScriptKind::Create)?;
+    let rest = after(rest, ScriptKind::Table)?;
     table(alloc, rest)
 }
 

@@ -1,6 +1,6 @@
 // The first tokens of a list.
 ghost use Rattle.std.specs.Prelude.{◌≡◌};
-ghost use Rattle.dx_grammar.specs.Readers.{token, next_is, ReadsAs};
+ghost use Rattle.dx_grammar.specs.Readers.{token, next_is, LeavesAs, ReadsAs};
 ghost use Rattle.dx_grammar.specs.Numbers.{counts_on, has_number, may_be, passes_with_number};
 ghost use Rattle.dx_script_text.specs.Grammar.{of_kind, is_comma, is_table, number as number_of};
 
@@ -59,23 +59,31 @@ pub(crate) fn any_of(
 {
     match tokens.split_first() {
         Some((first, rest)) if is_of(first, kind) => Ok((first, rest)),
-        Some(_) => Err(ReadError::Left(tokens.len())),
-        None => Err(ReadError::Left(0)),
+        _ => Err(ReadError::Left(tokens.len())),
     }
 }
 
-/// A token of this kind with this number, and what is left after it.
-pub(crate) fn that(
+/// What is left after a token of this kind.
+pub(crate) fn after(tokens: &[ScriptToken], kind: ScriptKind) -> Result<&[ScriptToken], ReadError>
+    ensures { LeavesAs (λ x. x.now) result (token (of_kind kind) tokens.now) }
+{
+    match tokens.split_first() {
+        Some((first, rest)) if is_of(first, kind) => Ok(rest),
+        _ => Err(ReadError::Left(tokens.len())),
+    }
+}
+
+/// What is left after a token of this kind with this number.
+pub(crate) fn after_that(
     tokens: &[ScriptToken],
     kind: ScriptKind,
     number: u32,
-) -> Result<(&ScriptToken, &[ScriptToken]), ReadError>
-    ensures { ReadsAs (λ x. (x.0.now, x.1.now)) result (token (has_number (of_kind kind) number_of number) tokens.now) }
+) -> Result<&[ScriptToken], ReadError>
+    ensures { LeavesAs (λ x. x.now) result (token (has_number (of_kind kind) number_of number) tokens.now) }
 {
     match tokens.split_first() {
-        Some((first, rest)) if has(first, kind, number) => Ok((first, rest)),
-        Some(_) => Err(ReadError::Left(tokens.len())),
-        None => Err(ReadError::Left(0)),
+        Some((first, rest)) if has(first, kind, number) => Ok(rest),
+        _ => Err(ReadError::Left(tokens.len())),
     }
 }
 
@@ -111,8 +119,7 @@ pub(crate) fn rule_of(
 {
     match tokens.split_first() {
         Some((first, rest)) if may_have(first, kind, known) => Ok((first, rest)),
-        Some(_) => Err(ReadError::Left(tokens.len())),
-        None => Err(ReadError::Left(0)),
+        _ => Err(ReadError::Left(tokens.len())),
     }
 }
 
@@ -125,7 +132,6 @@ pub(crate) fn table_of(
 {
     match tokens.split_first() {
         Some((first, rest)) if may_be_table(first, known) => Ok((first, rest)),
-        Some(_) => Err(ReadError::Left(tokens.len())),
-        None => Err(ReadError::Left(0)),
+        _ => Err(ReadError::Left(tokens.len())),
     }
 }
