@@ -12,7 +12,9 @@ ghost use Rattle.dx_query_text.specs.Texts.{query_of_text, query_of_tokens};
 use crate::texts::PartText;
 use dx_base::Items;
 use dx_grammar::{ReadError, nothing_left};
-use dx_schema_text::{atoms, cells, judged, keyword, mark, next_is_keyword, number};
+use dx_schema_text::{
+    after_keyword, after_mark, after_number, atoms, cells, judged, keyword, next_is_keyword,
+};
 use dx_tokens::{Lexeme, TextFault, TextKind, scan};
 use std::alloc::Global;
 
@@ -22,12 +24,12 @@ fn part(alloc: Global, tokens: &[Lexeme]) -> Result<(PartText, &[Lexeme]), ReadE
     ensures { ReadsAs (λ x. (x.0, x.1.now)) result (part_reader tokens.now) }
 {
     let (begin, rest) = keyword(tokens, b"answer")?;
-    let (_, rest) = mark(rest, b"(")?;
+    let rest = after_mark(rest, b"(")?;
     let (answer, rest) = cells(alloc, true, rest)?;
-    let (_, rest) = mark(rest, b")")?;
-    let (_, rest) = keyword(rest, b"from")?;
+    let rest = after_mark(rest, b")")?;
+    let rest = after_keyword(rest, b"from")?;
     let (atoms, rest) = atoms(alloc, true, rest)?;
-    let (_, rest) = mark(rest, b";")?;
+    let rest = after_mark(rest, b";")?;
     let part = PartText {
         place: begin.place,
         answer,
@@ -59,9 +61,9 @@ fn more_parts(
 fn query(alloc: Global, tokens: &[Lexeme]) -> Result<(Items<PartText>, &[Lexeme]), ReadError>
     ensures { ReadsAs (λ x. (x.0, x.1.now)) result (query_reader tokens.now) }
 {
-    let (_, rest) = keyword(tokens, b"query")?;
-    let (_, rest) = number(rest, b"1")?;
-    let (_, rest) = mark(rest, b";")?;
+    let rest = after_keyword(tokens, b"query")?;
+    let rest = after_number(rest, b"1")?;
+    let rest = after_mark(rest, b";")?;
     let (first, rest) = part(alloc, rest)?;
     let mut parts = Items::new(alloc);
     parts.push(first)?;

@@ -4,7 +4,7 @@ ghost use Rattle.dx_grammar.specs.Readers.{pass_on, give, next_is, many, ReadsAs
 ghost use Rattle.dx_schema_text.specs.Grammar.{since_two};
 ghost use Rattle.dx_schema_text.specs.Reading.{key_reader, dependency_of, decided_reader, dep_reader, begins_determination, determination_reader, reference_of, optional_reader, referred_reader, ref_reader, key_clause, dep_clause, ref_clause, set_clause, begins_clause, last_clause_reader, clause_reader_with, clause_reader, set_head_reader, set_reader, tree_of_clauses};
 
-use crate::lexemes::{keyword, mark, names, next_is_keyword, word};
+use crate::lexemes::{after_keyword, after_mark, names, next_is_keyword, word};
 use dx_base::{Items, Text};
 use dx_grammar::ReadError;
 use dx_schema::{DepDecl, KeyDecl, RefDecl, SetTree, Trees};
@@ -24,11 +24,11 @@ pub enum Clause {
 fn key(alloc: Global, tokens: &[Lexeme]) -> Result<(KeyDecl, &[Lexeme]), ReadError>
     ensures { ReadsAs (λ x. (x.0, x.1.now)) result (key_reader tokens.now) }
 {
-    let (_, rest) = keyword(tokens, b"key")?;
-    let (_, rest) = mark(rest, b"(")?;
+    let rest = after_keyword(tokens, b"key")?;
+    let rest = after_mark(rest, b"(")?;
     let (columns, rest) = names(alloc, rest)?;
-    let (_, rest) = mark(rest, b")")?;
-    let (_, rest) = mark(rest, b";")?;
+    let rest = after_mark(rest, b")")?;
+    let rest = after_mark(rest, b";")?;
     Ok((KeyDecl { columns }, rest))
 }
 
@@ -37,10 +37,10 @@ fn key(alloc: Global, tokens: &[Lexeme]) -> Result<(KeyDecl, &[Lexeme]), ReadErr
 fn decided(alloc: Global, tokens: &[Lexeme]) -> Result<(Items<Text>, &[Lexeme]), ReadError>
     ensures { (columns : List (List ℕ)) → ReadsAs (λ x. (dependency_of columns x.0, x.1.now)) result (decided_reader columns tokens.now) }
 {
-    let (_, rest) = mark(tokens, b"(")?;
+    let rest = after_mark(tokens, b"(")?;
     let (decides, rest) = names(alloc, rest)?;
-    let (_, rest) = mark(rest, b")")?;
-    let (_, rest) = mark(rest, b";")?;
+    let rest = after_mark(rest, b")")?;
+    let rest = after_mark(rest, b";")?;
     Ok((decides, rest))
 }
 
@@ -48,11 +48,11 @@ fn decided(alloc: Global, tokens: &[Lexeme]) -> Result<(Items<Text>, &[Lexeme]),
 fn dependency(alloc: Global, tokens: &[Lexeme]) -> Result<(DepDecl, &[Lexeme]), ReadError>
     ensures { ReadsAs (λ x. (x.0, x.1.now)) result (dep_reader tokens.now) }
 {
-    let (_, rest) = keyword(tokens, b"dep")?;
-    let (_, rest) = mark(rest, b"(")?;
+    let rest = after_keyword(tokens, b"dep")?;
+    let rest = after_mark(rest, b"(")?;
     let (columns, rest) = names(alloc, rest)?;
-    let (_, rest) = mark(rest, b")")?;
-    let (_, rest) = mark(rest, b"->")?;
+    let rest = after_mark(rest, b")")?;
+    let rest = after_mark(rest, b"->")?;
     let (decides, rest) = decided(alloc, rest)?;
     Ok((DepDecl { columns, decides }, rest))
 }
@@ -63,7 +63,7 @@ fn optional(optionals: bool, tokens: &[Lexeme]) -> Result<(bool, &[Lexeme]), Rea
     ensures { ReadsAs (λ x. (x.0, x.1.now)) result (optional_reader optionals tokens.now) }
 {
     if optionals && next_is_keyword(tokens, b"optional") {
-        let (_, rest) = keyword(tokens, b"optional")?;
+        let rest = after_keyword(tokens, b"optional")?;
         Ok((true, rest))
     } else {
         Ok((false, tokens))
@@ -81,11 +81,11 @@ fn referred(
         (referred_reader optionals columns tokens.now) }
 {
     let (set, rest) = word(tokens)?;
-    let (_, rest) = mark(rest, b"(")?;
+    let rest = after_mark(rest, b"(")?;
     let (referred, rest) = names(alloc, rest)?;
-    let (_, rest) = mark(rest, b")")?;
+    let rest = after_mark(rest, b")")?;
     let (is_optional, rest) = optional(optionals, rest)?;
-    let (_, rest) = mark(rest, b";")?;
+    let rest = after_mark(rest, b";")?;
     Ok((set.text.copy()?, referred, is_optional, rest))
 }
 
@@ -97,11 +97,11 @@ fn reference(
 ) -> Result<(RefDecl, &[Lexeme]), ReadError>
     ensures { ReadsAs (λ x. (x.0, x.1.now)) result (ref_reader optionals tokens.now) }
 {
-    let (_, rest) = keyword(tokens, b"ref")?;
-    let (_, rest) = mark(rest, b"(")?;
+    let rest = after_keyword(tokens, b"ref")?;
+    let rest = after_mark(rest, b"(")?;
     let (columns, rest) = names(alloc, rest)?;
-    let (_, rest) = mark(rest, b")")?;
-    let (_, rest) = mark(rest, b"->")?;
+    let rest = after_mark(rest, b")")?;
+    let rest = after_mark(rest, b"->")?;
     let (set, referred, optional, rest) = referred(alloc, optionals, rest)?;
     let reference = RefDecl {
         columns,
@@ -289,11 +289,11 @@ fn clauses(
 fn set_head(alloc: Global, tokens: &[Lexeme]) -> Result<(Text, Items<Text>, &[Lexeme]), ReadError>
     ensures { ReadsAs (λ x. ((x.0, x.1), x.2.now)) result (set_head_reader tokens.now) }
 {
-    let (_, rest) = keyword(tokens, b"set")?;
+    let rest = after_keyword(tokens, b"set")?;
     let (name, rest) = word(rest)?;
-    let (_, rest) = mark(rest, b"{")?;
+    let rest = after_mark(rest, b"{")?;
     let (columns, rest) = names(alloc, rest)?;
-    let (_, rest) = mark(rest, b";")?;
+    let rest = after_mark(rest, b";")?;
     Ok((name.text.copy()?, columns, rest))
 }
 
@@ -310,6 +310,6 @@ pub(crate) fn set(
 {
     let (name, columns, rest) = set_head(alloc, tokens)?;
     let (clauses, rest) = clauses(alloc, version, levels, rest)?;
-    let (_, rest) = mark(rest, b"}")?;
+    let rest = after_mark(rest, b"}")?;
     Ok((tree_made(alloc, name, columns, clauses)?, rest))
 }

@@ -1,6 +1,6 @@
 // The first tokens of a list: words, strings, marks, and names.
 ghost use Rattle.std.specs.Prelude.{◌≡◌, codes};
-ghost use Rattle.dx_grammar.specs.Readers.{token, next_is, many, with_front, ReadsAs};
+ghost use Rattle.dx_grammar.specs.Readers.{token, next_is, many, with_front, LeavesAs, ReadsAs};
 ghost use Rattle.dx_schema_text.specs.Grammar.{is_word, is_string, word_is, digit_is, mark_is};
 ghost use Rattle.dx_schema_text.specs.Reading.{comma_word, words_reader};
 
@@ -95,8 +95,7 @@ pub(crate) fn word(tokens: &[Lexeme]) -> Result<(&Lexeme, &[Lexeme]), ReadError>
 {
     match tokens.split_first() {
         Some((first, rest)) if is_any_word(first) => Ok((first, rest)),
-        Some(_) => Err(ReadError::Left(tokens.len())),
-        None => Err(ReadError::Left(0)),
+        _ => Err(ReadError::Left(tokens.len())),
     }
 }
 
@@ -106,8 +105,7 @@ pub(crate) fn string(tokens: &[Lexeme]) -> Result<(&Lexeme, &[Lexeme]), ReadErro
 {
     match tokens.split_first() {
         Some((first, rest)) if is_any_string(first) => Ok((first, rest)),
-        Some(_) => Err(ReadError::Left(tokens.len())),
-        None => Err(ReadError::Left(0)),
+        _ => Err(ReadError::Left(tokens.len())),
     }
 }
 
@@ -124,41 +122,49 @@ pub fn keyword<'a>(
 {
     match tokens.split_first() {
         Some((first, rest)) if is_keyword(first, word) => Ok((first, rest)),
-        Some(_) => Err(ReadError::Left(tokens.len())),
-        None => Err(ReadError::Left(0)),
+        _ => Err(ReadError::Left(tokens.len())),
     }
 }
 
-/// This number, and what is left after it.
+/// What is left after this word.
 ///
 /// # Errors
 ///
 /// `Left` with how many tokens are left at the first that can't stand.
-pub fn number<'a>(
-    tokens: &'a [Lexeme],
-    number: &[u8],
-) -> Result<(&'a Lexeme, &'a [Lexeme]), ReadError>
-    ensures { ReadsAs (λ x. (x.0.now, x.1.now)) result (token (digit_is number.now) tokens.now) }
+pub fn after_keyword<'a>(tokens: &'a [Lexeme], word: &[u8]) -> Result<&'a [Lexeme], ReadError>
+    ensures { LeavesAs (λ x. x.now) result (token (word_is word.now) tokens.now) }
 {
     match tokens.split_first() {
-        Some((first, rest)) if is_number(first, number) => Ok((first, rest)),
-        Some(_) => Err(ReadError::Left(tokens.len())),
-        None => Err(ReadError::Left(0)),
+        Some((first, rest)) if is_keyword(first, word) => Ok(rest),
+        _ => Err(ReadError::Left(tokens.len())),
     }
 }
 
-/// This mark, and what is left after it.
+/// What is left after this number.
 ///
 /// # Errors
 ///
 /// `Left` with how many tokens are left at the first that can't stand.
-pub fn mark<'a>(tokens: &'a [Lexeme], mark: &[u8]) -> Result<(&'a Lexeme, &'a [Lexeme]), ReadError>
-    ensures { ReadsAs (λ x. (x.0.now, x.1.now)) result (token (mark_is mark.now) tokens.now) }
+pub fn after_number<'a>(tokens: &'a [Lexeme], number: &[u8]) -> Result<&'a [Lexeme], ReadError>
+    ensures { LeavesAs (λ x. x.now) result (token (digit_is number.now) tokens.now) }
 {
     match tokens.split_first() {
-        Some((first, rest)) if is_mark(first, mark) => Ok((first, rest)),
-        Some(_) => Err(ReadError::Left(tokens.len())),
-        None => Err(ReadError::Left(0)),
+        Some((first, rest)) if is_number(first, number) => Ok(rest),
+        _ => Err(ReadError::Left(tokens.len())),
+    }
+}
+
+/// What is left after this mark.
+///
+/// # Errors
+///
+/// `Left` with how many tokens are left at the first that can't stand.
+pub fn after_mark<'a>(tokens: &'a [Lexeme], mark: &[u8]) -> Result<&'a [Lexeme], ReadError>
+    ensures { LeavesAs (λ x. x.now) result (token (mark_is mark.now) tokens.now) }
+{
+    match tokens.split_first() {
+        Some((first, rest)) if is_mark(first, mark) => Ok(rest),
+        _ => Err(ReadError::Left(tokens.len())),
     }
 }
 
@@ -166,7 +172,7 @@ pub fn mark<'a>(tokens: &'a [Lexeme], mark: &[u8]) -> Result<(&'a Lexeme, &'a [L
 fn comma_name(tokens: &[Lexeme]) -> Result<(Text, &[Lexeme]), ReadError>
     ensures { ReadsAs (λ x. (x.0, x.1.now)) result (comma_word tokens.now) }
 {
-    let (_, rest) = mark(tokens, b",")?;
+    let rest = after_mark(tokens, b",")?;
     let (name, rest) = word(rest)?;
     Ok((name.text.copy()?, rest))
 }

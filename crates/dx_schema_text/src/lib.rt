@@ -22,7 +22,7 @@ pub use laws::{
     a_text_says_one_thing, texts_are_spelled, texts_have_few_rules, too_deep_are_sets,
     what_is_said_is_of_its_version, what_is_said_is_writable,
 };
-pub use lexemes::{keyword, mark, next_is_keyword, number};
+pub use lexemes::{after_keyword, after_mark, after_number, keyword, next_is_keyword};
 pub use print::print_trees;
 pub use read::{judged, read_mapping};
 pub use rules::{atoms, cells};

@@ -4,7 +4,7 @@ ghost use Rattle.dx_grammar.specs.Readers.{many, with_front, ReadsAs};
 ghost use Rattle.dx_schema_text.specs.Grammar.{mark_is};
 ghost use Rattle.dx_schema_text.specs.Reading.{place_reader, comma_place, places_reader, string_reader, column_reader, call_reader, named_reader, source_reader, line_reader, only_reader};
 
-use crate::lexemes::{keyword, mark, next_is_mark, next_is_string, string, word};
+use crate::lexemes::{after_keyword, after_mark, next_is_mark, next_is_string, string, word};
 use crate::texts::{LineText, OnlyText, PlaceText, SourceText};
 use dx_base::Items;
 use dx_grammar::ReadError;
@@ -16,7 +16,7 @@ fn place(tokens: &[Lexeme]) -> Result<(PlaceText, &[Lexeme]), ReadError>
     ensures { ReadsAs (λ x. (x.0, x.1.now)) result (place_reader tokens.now) }
 {
     let (set, rest) = word(tokens)?;
-    let (_, rest) = mark(rest, b".")?;
+    let rest = after_mark(rest, b".")?;
     let (column, rest) = word(rest)?;
     let place = PlaceText {
         set: set.text.copy()?,
@@ -31,7 +31,7 @@ fn place(tokens: &[Lexeme]) -> Result<(PlaceText, &[Lexeme]), ReadError>
 fn next_place(tokens: &[Lexeme]) -> Result<(PlaceText, &[Lexeme]), ReadError>
     ensures { ReadsAs (λ x. (x.0, x.1.now)) result (comma_place tokens.now) }
 {
-    let (_, rest) = mark(tokens, b",")?;
+    let rest = after_mark(tokens, b",")?;
     place(rest)
 }
 
@@ -75,7 +75,7 @@ fn literal(tokens: &[Lexeme]) -> Result<(SourceText, &[Lexeme]), ReadError>
 fn column<'a>(set: &Lexeme, tokens: &'a [Lexeme]) -> Result<(SourceText, &'a [Lexeme]), ReadError>
     ensures { ReadsAs (λ x. (x.0, x.1.now)) result (column_reader set.now tokens.now) }
 {
-    let (_, rest) = mark(tokens, b".")?;
+    let rest = after_mark(tokens, b".")?;
     let (column, rest) = word(rest)?;
     let place = PlaceText {
         set: set.text.copy()?,
@@ -95,9 +95,9 @@ fn call<'a>(
 ) -> Result<(SourceText, &'a [Lexeme]), ReadError>
     ensures { ReadsAs (λ x. (x.0, x.1.now)) result (call_reader name.now tokens.now) }
 {
-    let (_, rest) = mark(tokens, b"(")?;
+    let rest = after_mark(tokens, b"(")?;
     let (args, rest) = places(alloc, rest)?;
-    let (_, rest) = mark(rest, b")")?;
+    let rest = after_mark(rest, b")")?;
     let call = SourceText::Call {
         name: name.text.copy()?,
         place: name.place,
@@ -134,11 +134,11 @@ fn source(alloc: Global, tokens: &[Lexeme]) -> Result<(SourceText, &[Lexeme]), R
 pub(crate) fn line(alloc: Global, tokens: &[Lexeme]) -> Result<(LineText, &[Lexeme]), ReadError>
     ensures { ReadsAs (λ x. (x.0, x.1.now)) result (line_reader tokens.now) }
 {
-    let (_, rest) = keyword(tokens, b"line")?;
+    let rest = after_keyword(tokens, b"line")?;
     let (source, rest) = source(alloc, rest)?;
-    let (_, rest) = mark(rest, b"->")?;
+    let rest = after_mark(rest, b"->")?;
     let (target, rest) = place(rest)?;
-    let (_, rest) = mark(rest, b";")?;
+    let rest = after_mark(rest, b";")?;
     Ok((LineText { source, target }, rest))
 }
 
@@ -147,10 +147,10 @@ pub(crate) fn line(alloc: Global, tokens: &[Lexeme]) -> Result<(LineText, &[Lexe
 pub(crate) fn only(tokens: &[Lexeme]) -> Result<(OnlyText, &[Lexeme]), ReadError>
     ensures { ReadsAs (λ x. (x.0, x.1.now)) result (only_reader tokens.now) }
 {
-    let (_, rest) = keyword(tokens, b"only")?;
+    let rest = after_keyword(tokens, b"only")?;
     let (place, rest) = place(rest)?;
     let (test, rest) = word(rest)?;
-    let (_, rest) = mark(rest, b";")?;
+    let rest = after_mark(rest, b";")?;
     let condition = OnlyText {
         place,
         test: test.text.copy()?,

@@ -5,7 +5,7 @@ ghost use Rattle.dx_schema_text.specs.Grammar.{word_is};
 ghost use Rattle.dx_schema_text.specs.Reading.{line_reader, rule_reader, only_reader, line_item, rule_item, only_item, begins_item, item_reader, set_reader, side_reader, body_reader, mapping_reader, mapping_of_items};
 
 use crate::clauses::set;
-use crate::lexemes::{keyword, mark, next_is_keyword, next_is_number, number};
+use crate::lexemes::{after_keyword, after_mark, after_number, next_is_keyword, next_is_number};
 use crate::lines::{line, only};
 use crate::rules::rule;
 use crate::texts::{LineText, MappingText, OnlyText, RuleText};
@@ -116,10 +116,10 @@ fn side<'a>(
 ) -> Result<(Trees, &'a [Lexeme]), ReadError>
     ensures { ReadsAs (λ x. (x.0, x.1.now)) result (side_reader version name.now levels tokens.now) }
 {
-    let (_, rest) = keyword(tokens, name)?;
-    let (_, rest) = mark(rest, b"{")?;
+    let rest = after_keyword(tokens, name)?;
+    let rest = after_mark(rest, b"{")?;
     let (sets, rest) = sets(alloc, version, levels, rest)?;
-    let (_, rest) = mark(rest, b"}")?;
+    let rest = after_mark(rest, b"}")?;
     Ok((Trees::from_vec(sets.into_vec()), rest))
 }
 
@@ -163,7 +163,7 @@ fn body(
 ) -> Result<(MappingText, &[Lexeme]), ReadError>
     ensures { ReadsAs (λ x. (x.0, x.1.now)) result (body_reader version levels tokens.now) }
 {
-    let (_, rest) = mark(tokens, b";")?;
+    let rest = after_mark(tokens, b";")?;
     let (source, rest) = side(alloc, version, b"source", levels, rest)?;
     let (target, rest) = side(alloc, version, b"target", levels, rest)?;
     let (items, rest) = items(alloc, version >= 2, rest)?;
@@ -178,15 +178,15 @@ fn mapping(
 ) -> Result<(MappingText, &[Lexeme]), ReadError>
     ensures { ReadsAs (λ x. (x.0, x.1.now)) result (mapping_reader levels tokens.now) }
 {
-    let (_, rest) = keyword(tokens, b"mapping")?;
+    let rest = after_keyword(tokens, b"mapping")?;
     if next_is_number(rest, b"1") {
-        let (_, rest) = number(rest, b"1")?;
+        let rest = after_number(rest, b"1")?;
         body(alloc, 1, levels, rest)
     } else if next_is_number(rest, b"2") {
-        let (_, rest) = number(rest, b"2")?;
+        let rest = after_number(rest, b"2")?;
         body(alloc, 2, levels, rest)
     } else {
-        let (_, rest) = number(rest, b"3")?;
+        let rest = after_number(rest, b"3")?;
         body(alloc, 3, levels, rest)
     }
 }

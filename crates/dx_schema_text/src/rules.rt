@@ -4,7 +4,9 @@ ghost use Rattle.dx_grammar.specs.Readers.{many, with_front, ReadsAs};
 ghost use Rattle.dx_schema_text.specs.Grammar.{mark_is};
 ghost use Rattle.dx_schema_text.specs.Reading.{name_reader, literal_reader, cell_reader, comma_cell, cells_reader, atom_reader, comma_atom, atoms_reader, derived_reader, comma_derived, where_reader, optional_where, rule_reader};
 
-use crate::lexemes::{keyword, mark, next_is_keyword, next_is_mark, next_is_word, string, word};
+use crate::lexemes::{
+    after_keyword, after_mark, next_is_keyword, next_is_mark, next_is_word, string, word,
+};
 use crate::texts::{AtomText, CellText, DerivedText, RuleText};
 use dx_base::Items;
 use dx_grammar::ReadError;
@@ -47,7 +49,7 @@ fn cell(strings: bool, tokens: &[Lexeme]) -> Result<(CellText, &[Lexeme]), ReadE
 fn next_cell(strings: bool, tokens: &[Lexeme]) -> Result<(CellText, &[Lexeme]), ReadError>
     ensures { ReadsAs (λ x. (x.0, x.1.now)) result (comma_cell strings tokens.now) }
 {
-    let (_, rest) = mark(tokens, b",")?;
+    let rest = after_mark(tokens, b",")?;
     cell(strings, rest)
 }
 
@@ -93,9 +95,9 @@ fn atom(alloc: Global, strings: bool, tokens: &[Lexeme]) -> Result<(AtomText, &[
     ensures { ReadsAs (λ x. (x.0, x.1.now)) result (atom_reader strings tokens.now) }
 {
     let (set, rest) = word(tokens)?;
-    let (_, rest) = mark(rest, b"(")?;
+    let rest = after_mark(rest, b"(")?;
     let (cells, rest) = cells(alloc, strings, rest)?;
-    let (_, rest) = mark(rest, b")")?;
+    let rest = after_mark(rest, b")")?;
     let atom = AtomText {
         set: set.text.copy()?,
         place: set.place,
@@ -112,7 +114,7 @@ fn next_atom(
 ) -> Result<(AtomText, &[Lexeme]), ReadError>
     ensures { ReadsAs (λ x. (x.0, x.1.now)) result (comma_atom strings tokens.now) }
 {
-    let (_, rest) = mark(tokens, b",")?;
+    let rest = after_mark(tokens, b",")?;
     atom(alloc, strings, rest)
 }
 
@@ -159,11 +161,11 @@ fn derived(alloc: Global, tokens: &[Lexeme]) -> Result<(DerivedText, &[Lexeme]),
     ensures { ReadsAs (λ x. (x.0, x.1.now)) result (derived_reader tokens.now) }
 {
     let (name, rest) = word(tokens)?;
-    let (_, rest) = mark(rest, b"=")?;
+    let rest = after_mark(rest, b"=")?;
     let (call, rest) = word(rest)?;
-    let (_, rest) = mark(rest, b"(")?;
+    let rest = after_mark(rest, b"(")?;
     let (args, rest) = cells(alloc, false, rest)?;
-    let (_, rest) = mark(rest, b")")?;
+    let rest = after_mark(rest, b")")?;
     let derived = DerivedText {
         name: name.text.copy()?,
         place: name.place,
@@ -178,7 +180,7 @@ fn derived(alloc: Global, tokens: &[Lexeme]) -> Result<(DerivedText, &[Lexeme]),
 fn next_derived(alloc: Global, tokens: &[Lexeme]) -> Result<(DerivedText, &[Lexeme]), ReadError>
     ensures { ReadsAs (λ x. (x.0, x.1.now)) result (comma_derived tokens.now) }
 {
-    let (_, rest) = mark(tokens, b",")?;
+    let rest = after_mark(tokens, b",")?;
     derived(alloc, rest)
 }
 
@@ -207,7 +209,7 @@ fn where_part(
 ) -> Result<(Items<DerivedText>, &[Lexeme]), ReadError>
     ensures { ReadsAs (λ x. (x.0, x.1.now)) result (where_reader tokens.now) }
 {
-    let (_, rest) = keyword(tokens, b"where")?;
+    let rest = after_keyword(tokens, b"where")?;
     let (first, rest) = derived(alloc, rest)?;
     let mut all = Items::new(alloc);
     all.push(first)?;
@@ -233,12 +235,12 @@ fn derived_variables(
 pub(crate) fn rule(alloc: Global, tokens: &[Lexeme]) -> Result<(RuleText, &[Lexeme]), ReadError>
     ensures { ReadsAs (λ x. (x.0, x.1.now)) result (rule_reader tokens.now) }
 {
-    let (_, rest) = keyword(tokens, b"rule")?;
+    let rest = after_keyword(tokens, b"rule")?;
     let (premise, rest) = atoms(alloc, false, rest)?;
     let (derived, rest) = derived_variables(alloc, rest)?;
-    let (_, rest) = mark(rest, b"->")?;
+    let rest = after_mark(rest, b"->")?;
     let (conclusion, rest) = atoms(alloc, true, rest)?;
-    let (_, rest) = mark(rest, b";")?;
+    let rest = after_mark(rest, b";")?;
     let rule = RuleText {
         premise,
         derived,

@@ -40,4 +40,4 @@ set-returns-in_err-rest t c =
     rw (p.1, p.2) (closing_fails c.in_err-rest.field-0.0 c.args.version c.args.levels c.args.tokens.now c.in_ok-name.rest.now c.in_ok-clauses.rest.now c.in_ok-name.name c.in_ok-name.columns c.in_ok-clauses.clauses c.in_ok-name.ensures c.in_ok-clauses.ensures c.in_err-rest.ensures)
 
 pub set-returns : goal.set-returns
-set-returns t c = set_is c.args.version c.args.levels c.args.tokens.now c.in_ok-name.rest.now c.in_ok-clauses.rest.now c.in_ok-rest.rest.now c.in_ok-name.name c.in_ok-name.columns c.in_ok-clauses.clauses c.in_ok-rest.field-0-0.now c.in_ok-tree_made.field-0 c.in_ok-name.ensures c.in_ok-clauses.ensures c.in_ok-rest.ensures c.in_ok-tree_made.ensures
+set-returns t c = set_is c.args.version c.args.levels c.args.tokens.now c.in_ok-name.rest.now c.in_ok-clauses.rest.now c.in_ok-rest.rest.now c.in_ok-name.name c.in_ok-name.columns c.in_ok-clauses.clauses c.in_ok-rest.ensures.0 c.in_ok-tree_made.field-0 c.in_ok-name.ensures c.in_ok-clauses.ensures c.in_ok-rest.ensures.1 c.in_ok-tree_made.ensures
