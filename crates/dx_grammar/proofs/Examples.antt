@@ -1,9 +1,9 @@
 -- First faults of small texts, what readers answer of them, and how values are spelled, computed. Tokens are numbers.
-use Rattle.std.proofs.Common.{◌≡◌, ℕ, ◌+◌, Bool, true, false, List, [], ◌∷◌, Some, None, Result, Ok, Err, nat_eq, nat_lt, refl, ap, inr, arith}
+use Rattle.std.proofs.Common.{◌≡◌, ℕ, ◌+◌, Bool, true, false, List, [], ◌∷◌, Some, None, Result, Ok, Err, nat_eq, nat_lt, length, refl, ap, inr, arith}
 use Rattle.dx_grammar.specs.Forms.{Form, one, ◌▸◌, Derives, Starts}
 use Rattle.dx_grammar.specs.Faults.{IsUnexpectedAt, IsStoppedAt}
 use Rattle.dx_grammar.specs.declared.reading.ReadError.TheVariants as errors
-use Rattle.dx_grammar.specs.Readers.{Reader, ◌>>=◌, token, many, whole, TellsOfTokens, FailsAs, ReadsAs, Many, no_more, one_more}
+use Rattle.dx_grammar.specs.Readers.{Reader, ◌>>=◌, token, many, whole, TellsOfTokens, FailsAs, LeavesAs, ReadsAs, Many, no_more, one_more}
 use Rattle.dx_grammar.specs.Lists.{list_reader, past_one, SpellsList, list_of}
 use Rattle.dx_grammar.specs.Numbers.{counted_reader, may_be, has_number, number_then, Knower, always, number_token, knowing, knowing_within}
 use Rattle.dx_grammar.proofs.Verdicts.{Anything}
@@ -154,6 +154,18 @@ another_value h = let e : 1 ≡ 2 = ap number_in h in omega (arith, e)
 
 another_place : ¬ (FailsAs {A = ℕ} (errors.Left 2) (Err 1))
 another_place h = let e : 1 ≡ 2 = ap number_in h in omega (arith, e)
+
+-- how many tokens are left
+abbrev left_in : Result (ℕ × List ℕ) ℕ → ℕ
+left_in (Ok p) = length p.1
+left_in (Err n) = n
+
+-- what is left may be after any value, and is no other
+after_a_value : LeavesAs {A = List ℕ} (λ xs. xs) (Ok (3 ∷ [])) (token some (1 ∷ 3 ∷ []))
+after_a_value = (1, refl)
+
+another_rest : ¬ (LeavesAs {A = List ℕ} {B = ℕ} (λ xs. xs) (Ok []) (Ok (1, 3 ∷ [])))
+another_rest h = let e : 1 ≡ 0 = ap left_in h.1 in omega (arith, e)
 
 -- ---- spellings
 
