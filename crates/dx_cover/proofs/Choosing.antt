@@ -19,7 +19,7 @@ use Rattle.dx_cover.proofs.Searching.{filter_none, first_kept}
 -- ---- a cell
 
 -- a meeting of a cell map passes both tests
-both_pass : (ms : List Meeting) (m : Meeting) → m ∈ ms → is_cell_map ms ≡ true → (same_cell (first_met m.cell ms) m.met ≡ true) × (may_meet m.cell m.met ≡ true)
+pub both_pass : (ms : List Meeting) (m : Meeting) → m ∈ ms → is_cell_map ms ≡ true → (same_cell (first_met m.cell ms) m.met ≡ true) × (may_meet m.cell m.met ≡ true)
 both_pass ms m k t =
     and_parts (same_cell (first_met m.cell ms) m.met) (may_meet m.cell m.met) (from_all (λ (m : Meeting). same_cell (first_met m.cell ms) m.met && may_meet m.cell m.met) ms t k)
 
@@ -46,7 +46,7 @@ turned false h = refl
 
 -- ---- an atom
 
-meets_at : (cs es : List Cell) (i : ℕ) (c d : Cell) → i < length cs → length cs ≡ length es → c ≡ get_or cs i c → d ≡ get_or es i d → (m : Meeting) × (m ∈ meet cs es) × (m.cell ≡ c) × (m.met ≡ d)
+pub meets_at : (cs es : List Cell) (i : ℕ) (c d : Cell) → i < length cs → length cs ≡ length es → c ≡ get_or cs i c → d ≡ get_or es i d → (m : Meeting) × (m ∈ meet cs es) × (m.cell ≡ c) × (m.met ≡ d)
 meets_at [] es i c d h l e f = absurd (omega (arith, h))
 meets_at (x ∷ cs) [] i c d h l e f = absurd (omega (arith, l))
 meets_at (x ∷ cs) (y ∷ es) zero c d h l e f = (record { cell = x; met = y }, here refl, sym e, sym f)
@@ -59,7 +59,7 @@ excluded_at bound a b i c d h l e f n more s = let w = meets_at a.cells b.cells 
 -- ---- the rest
 
 -- what is chosen for an atom is one of the others, and their meetings are among those of all
-chosen_one : (rest others bs : List Atom) (a : Atom) → a ∈ rest → bs ∈ choices rest others → (b : Atom) × (b ∈ others) × (a.table ≡ b.table) × (meet a.cells b.cells ⊆ meetings rest bs)
+pub chosen_one : (rest others bs : List Atom) (a : Atom) → a ∈ rest → bs ∈ choices rest others → (b : Atom) × (b ∈ others) × (a.table ≡ b.table) × (meet a.cells b.cells ⊆ meetings rest bs)
 chosen_one [] others bs a m k = elim m [ ]
 chosen_one (x ∷ rest) others bs a m k =
     let w = from_flat_map (λ (b : Atom). map (λ bs. b ∷ bs) (choices rest others)) (filter (λ (b : Atom). eqb x.table b.table) others) k in

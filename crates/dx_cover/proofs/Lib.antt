@@ -4,4 +4,5 @@ pub mod Searching
 pub mod Memory
 pub mod Covering
 pub mod Choosing
+pub mod Pairing
 pub mod Examples

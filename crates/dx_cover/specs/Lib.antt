@@ -1,4 +1,5 @@
 pub mod Covering
+pub mod Pairs
 pub mod Partners
 pub mod Search
 pub mod States

@@ -13,6 +13,7 @@
 
 mod cells;
 mod covers;
+mod pairs;
 mod partners;
 mod problem;
 mod search;
