@@ -1,7 +1,7 @@
 -- Choices for the atoms of the rest, looked at two by two.
-use Rattle.std.proofs.Common.{◌≡◌, ℕ, ◌+◌, ◌<◌, ◌≤◌, true, false, List, [], ◌∷◌, ◌++◌, inl, inr, refl, sym, ◌∙◌, ap, subst, length, get_or, take, Bor}
-use Rattle.std.specs.Prelude.{map, ◌⊎◌}
-use Rattle.std.proofs.lemmas.Bool.{cases_Bool}
+use Rattle.std.proofs.Common.{◌≡◌, ℕ, ◌+◌, ◌<◌, ◌≤◌, true, false, List, [], ◌∷◌, ◌++◌, inl, inr, refl, sym, ◌∙◌, ap, subst, length, get_or, take, Bor, arith}
+use Rattle.std.specs.Prelude.{map, ◌⊎◌, ◌==◌}
+use Rattle.std.proofs.lemmas.Bool.{cases_Bool, eqb-true}
 use Rattle.std.proofs.lemmas.List.{get_or_default, map-append, take_all}
 use Rattle.dx_base.specs.Members.{◌∈◌, ◌⊆◌, Each, behind, here, there}
 use Rattle.dx_base.proofs.Members.{from_append, from_map, in_left, in_right, in_map, item_in}
@@ -123,3 +123,8 @@ behind_item rs i r h e = in_map (λ (r : Bor Atom). r.now) (item_in rs i r h e)
 -- what each of the references has, each atom behind them has
 pub each_behind : (P : Atom → Type 0) (rs : List (Bor Atom)) → Each rs (λ r. P r.now) → Each (behind rs) P
 each_behind P rs h x m = let w = from_map (λ (r : Bor Atom). r.now) rs m in subst P w.2 (h w.0 w.1)
+
+-- behind no references there is nothing
+pub none_behind : (rs : List (Bor Atom)) (n : ℕ) → n ≡ length rs → (n == 0) ≡ true → behind rs ≡ []
+none_behind [] n h e = refl
+none_behind (r ∷ rs) n h e = absurd (omega (arith, eqb-true n 0 e, h))

@@ -1,6 +1,7 @@
 ghost use Rattle.std.specs.Prelude.{◌≡◌, ◌≤◌, ◌++◌, IfOk, IsTrue, OnOk, false, List, [], ◌∷◌, length, map};
 ghost use Rattle.std.specs.List.{list_all, list_any};
 ghost use Rattle.dx_model.specs.declared.rules.Atom.{Atom as AtomValue};
+ghost use Rattle.dx_model.specs.declared.rules.Rule.{Rule as RuleValue};
 ghost use Rattle.dx_model.specs.declared.rules.Cell.TheVariants.{Var as VarCell, Ex as ExCell};
 ghost use Rattle.dx_model.specs.Covers.{below, first_met, is_cell_map, map_of, may_meet, meet, same_cell, same_cells, used_maps};
 ghost use Rattle.dx_model.specs.Fitting.{AgreeInWidths, IsRule};
@@ -8,6 +9,7 @@ ghost use Rattle.dx_cover.specs.Search.{AreAllSeen, MeetInWidths, found_after, h
 ghost use Rattle.dx_cover.specs.States.{IsSearch, IsTrueFor, last, same_state, state_of};
 
 use crate::cells::is_same_cell;
+use crate::pairs::{Part, have_choices};
 use crate::partners::have_partners;
 use crate::problem::Problem;
 use crate::states::{Search, State, is_known, make_state, remember};
@@ -15,6 +17,9 @@ use crate::variables::{existentials, exported};
 use dx_base::Items;
 use dx_model::{Atom, Cell, CellMap, Meeting, Rule, copy_cell};
 use std::alloc::{AllocError, Global};
+
+/// With more dead states than these, a search looks at the atoms two by two.
+const FEW_DEAD: usize = 32;
 
 /// Whether a cell may meet another.
 pub(crate) fn is_allowed(cell: &Cell, met: &Cell) -> bool
@@ -275,6 +280,33 @@ pub(crate) fn look_ahead(
     Ok(Outlook::Open)
 }
 
+/// Whether it can be seen that no cell map begins with these meetings: in the atoms one by one, and two by two if the search
+/// has come to many dead states.
+fn is_hopeless(
+    alloc: Global,
+    rest: &[Atom],
+    others: &[Atom],
+    bound: &[Meeting],
+    dead: usize,
+) -> Result<bool, AllocError>
+    requires { MeetInWidths rest.now others.now }
+    ensures { IfOk result (λ b. IsTrue b → (i : RuleValue) → maps_under i bound.now rest.now others.now ≡ []) }
+{
+    if !have_partners(rest, others, bound) {
+        return Ok(true);
+    }
+    if dead <= FEW_DEAD {
+        return Ok(false);
+    }
+    let part = Part {
+        rest,
+        others,
+        bound,
+    };
+    let any = have_choices(alloc, &part)?;
+    Ok(!any)
+}
+
 /// Finds the cell maps that begin with these meetings, and choose for each of the rest one of the others: false if there is
 /// none.
 #[cycle(extend)]
@@ -299,7 +331,8 @@ pub(crate) fn extend(
         Outlook::NothingNew => return Ok(true),
         Outlook::Open => {}
     }
-    if !have_partners(rest, problem.others, bound.as_slice()) {
+    let hopeless = is_hopeless(alloc, rest, problem.others, bound.as_slice(), search.dead.len())?;
+    if hopeless {
         return Ok(false);
     }
     match rest.split_first() {
