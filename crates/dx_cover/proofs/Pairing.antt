@@ -1,9 +1,9 @@
 -- Choices for the atoms of the rest, looked at two by two.
-use Rattle.std.proofs.Common.{◌≡◌, ℕ, ◌+◌, ◌<◌, ◌≤◌, true, false, List, [], ◌∷◌, ◌++◌, inl, inr, refl, sym, ◌∙◌, ap, subst, length, get_or, take, Bor, arith}
+use Rattle.std.proofs.Common.{◌≡◌, ℕ, ◌+◌, ◌<◌, true, false, List, [], ◌∷◌, ◌++◌, inl, inr, refl, sym, ◌∙◌, ap, subst, length, get_or, take, Bor, arith}
 use Rattle.std.specs.Prelude.{map, ◌⊎◌, ◌==◌}
 use Rattle.std.proofs.lemmas.Bool.{cases_Bool, eqb-true}
-use Rattle.std.proofs.lemmas.List.{get_or_default, map-append, take_all}
-use Rattle.dx_base.specs.Members.{◌∈◌, ◌⊆◌, Each, behind, here, there}
+use Rattle.std.proofs.lemmas.List.{get_or_default, map-append}
+use Rattle.dx_base.specs.Members.{◌∈◌, Each, behind, here, there}
 use Rattle.dx_base.proofs.Members.{from_append, from_map, in_left, in_right, in_map, item_in}
 use Rattle.dx_base.proofs.Loops.{each_more}
 use Rattle.dx_model.specs.declared.rules.Cell.{Cell}
@@ -69,7 +69,7 @@ none_left i bound rest others a left e h =
     ap (map (map_of i)) (filter_none is_cell_map (map (λ bs. bound ++ meetings rest bs) (choices rest others)) (λ ms k.
     let w = from_map (λ bs. bound ++ meetings rest bs) (choices rest others) k in
     let b = chosen_one rest others w.0 a h.own w.1 in
-    subst (λ z. is_cell_map z ≡ false) w.2 (elim (h.all b.0 b.1 b.2) [ | inl m ↦ elim (subst (λ z. b.0 ∈ z) e m) [ ] | inr n ↦ n w.0 w.1 b.3 ])))
+    subst (λ z. is_cell_map z ≡ false) w.2 (elim (h.all b.0 b.1 b.2) [ inl m ↦ elim (subst (λ z. b.0 ∈ z) e m) [ ] | inr n ↦ n w.0 w.1 b.3 ])))
 
 -- ---- one item after the other
 
@@ -79,7 +79,7 @@ behind_push rs new r e = ap behind e ∙ map-append (λ (r : Bor Atom). r.now) r
 
 -- what each item has, and one more
 pub each_pushed : {X : Type 0} (P : X → Type 0) (xs new : List X) (x : X) → new ≡ xs ++ x ∷ [] → Each xs P → P x → Each new P
-each_pushed {X} P xs new x e h p y m = elim (from_append xs (subst (λ z. y ∈ z) e m)) [ | inl l ↦ h y l | inr r ↦ last r ]
+each_pushed {X} P xs new x e h p y m = elim (from_append xs (subst (λ z. y ∈ z) e m)) [ inl l ↦ h y l | inr r ↦ last r ]
   where
     last : y ∈ (x ∷ []) → P y
     last (here d) = subst P d p
@@ -90,7 +90,7 @@ pub one_left : {X : Type 0} (f : X → Atom) (N T : Atom → Type 0) (xs : List 
     → Each (take i xs) (λ b. T (f b) → (f b ∈ left) ⊎ N (f b)) → Each (take (i + 1) xs) (λ b. T (f b) → (f b ∈ new) ⊎ N (f b))
 one_left f N T xs i x left new h e n old =
     each_more (λ b. T (f b) → (f b ∈ new) ⊎ N (f b)) xs i x h e
-    (λ b m t. elim (old b m t) [ | inl l ↦ inl (subst (λ z. f b ∈ z) (sym n) (in_left (f x ∷ []) l)) | inr r ↦ inr r ])
+    (λ b m t. elim (old b m t) [ inl l ↦ inl (subst (λ z. f b ∈ z) (sym n) (in_left (f x ∷ []) l)) | inr r ↦ inr r ])
     (λ t. inl (subst (λ z. f x ∈ z) (sym n) (in_right left (here refl))))
 
 -- or with one more that is never chosen

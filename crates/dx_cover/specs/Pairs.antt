@@ -1,5 +1,5 @@
 -- Choices for the atoms of the rest, looked at two by two.
-use Rattle.std.specs.Prelude.{◌≡◌, ◌≢◌, ◌<◌, ◌⊎◌, ⊤, false, List, [], length, slice_index_or, ◌++◌}
+use Rattle.std.specs.Prelude.{◌≡◌, ◌<◌, ◌⊎◌, ⊤, false, List, [], length, slice_index_or, ◌++◌}
 use Rattle.dx_base.specs.Members.{◌∈◌, ◌⊆◌, Each, behind}
 use Rattle.dx_model.specs.declared.rules.Cell.TheVariants.{Ex}
 use Rattle.dx_model.specs.declared.rules.Atom.{Atom}

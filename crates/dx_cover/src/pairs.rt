@@ -45,11 +45,7 @@ pub(crate) enum Round<'a> {
 }
 
 /// The atom, with those of the others that the meetings don't exclude.
-fn choice_of<'a>(
-    alloc: Global,
-    atom: &'a Atom,
-    part: &Part<'a>,
-) -> Result<Choice<'a>, AllocError>
+fn choice_of<'a>(alloc: Global, atom: &'a Atom, part: &Part<'a>) -> Result<Choice<'a>, AllocError>
     requires own { atom.now ∈ part.now.rest.now }
     requires widths { MeetInWidths part.now.rest.now part.now.others.now }
     ensures { IfOk result (IsChoice part.now) }

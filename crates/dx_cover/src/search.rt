@@ -331,7 +331,13 @@ pub(crate) fn extend(
         Outlook::NothingNew => return Ok(true),
         Outlook::Open => {}
     }
-    let hopeless = is_hopeless(alloc, rest, problem.others, bound.as_slice(), search.dead.len())?;
+    let hopeless = is_hopeless(
+        alloc,
+        rest,
+        problem.others,
+        bound.as_slice(),
+        search.dead.len(),
+    )?;
     if hopeless {
         return Ok(false);
     }

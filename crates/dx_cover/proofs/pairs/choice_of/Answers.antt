@@ -1,4 +1,4 @@
-use Rattle.std.proofs.Common.{◌≡◌, ◌+◌, refl, ap, subst, Bor, List, [], ◌∷◌, ◌++◌, length, take}
+use Rattle.std.proofs.Common.{◌≡◌, ◌+◌, refl, ap, subst, Bor, [], ◌∷◌, ◌++◌, length, take}
 use Rattle.std.specs.Prelude.{◌⊎◌}
 use Rattle.std.proofs.lemmas.List.{map-append}
 use Rattle.dx_base.specs.Members.{◌∈◌, Each, behind}
@@ -29,18 +29,17 @@ loop-other-preserved c =
       | then-atom-other+then-not-is_excluded+in_ok-push w ↦
           let more : after ≡ before ++ other ∷ [] = rw (w.left-is, w.in_ok-push.ensures.items, map-append (λ (r : Bor Atom). r.now)) refl in (
             each_pushed (λ (b : Atom). length atom.cells ≡ length b.cells) before after other more c.loop-other.invariant.0
-            (c.requires.widths atom other c.requires.own (item_in part.others.now c.loop-other.other-index other c.loop-other-test.true c.other-item.is) w.if-atom-other.true),
+                (c.requires.widths atom other c.requires.own (item_in part.others.now c.loop-other.other-index other c.loop-other-test.true c.other-item.is) w.if-atom-other.true),
             one_left (λ (b : Atom). b) never (λ b. atom.table ≡ b.table) part.others.now c.loop-other.other-index other before after c.loop-other-test.true c.other-item.is more c.loop-other.invariant.1,
           )
       | else-atom-other w ↦
           let same : c.loop-other.left ≡ c.if-atom-other.left = cc in
-          subst (λ v. Each (behind v.items) (λ b. length atom.cells ≡ length b.cells) × Each (take (c.loop-other.other-index + 1) part.others.now) (λ b. atom.table ≡ b.table → (b ∈ behind v.items) ⊎ never b)) same
-          (
+          subst (λ v. Each (behind v.items) (λ b. length atom.cells ≡ length b.cells) × Each (take (c.loop-other.other-index + 1) part.others.now) (λ b. atom.table ≡ b.table → (b ∈ behind v.items) ⊎ never b)) same (
             c.loop-other.invariant.0,
             one_out (λ (b : Atom). b) never (λ b. atom.table ≡ b.table) part.others.now c.loop-other.other-index other before c.loop-other-test.true c.other-item.is
-            (elim w.else-atom-other.branch [
-              | else-atom-other-via-then-atom-other+else-not-is_excluded v ↦ λ e. excluded_never part.bound.now part.rest.now part.others.now atom other (v.is_excluded.ensures v.if-not-is_excluded.false)
-              | else-atom-other-via-else-atom-other v ↦ λ e. absurd (v.if-atom-other.false e)
-            ]) c.loop-other.invariant.1,
+                (elim w.else-atom-other.branch [
+                  | else-atom-other-via-then-atom-other+else-not-is_excluded v ↦ λ e. excluded_never part.bound.now part.rest.now part.others.now atom other (v.is_excluded.ensures v.if-not-is_excluded.false)
+                  | else-atom-other-via-else-atom-other v ↦ λ e. absurd (v.if-atom-other.false e)
+                ]) c.loop-other.invariant.1,
           )
     ]

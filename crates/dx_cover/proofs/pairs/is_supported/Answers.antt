@@ -1,4 +1,3 @@
-use Rattle.std.proofs.lemmas.List.{take_all}
 use Rattle.dx_base.proofs.Loops.{each_more}
 use Rattle.dx_base.proofs.Members.{each_all}
 use Rattle.dx_cover.specs.Pairs.{Disagree}

@@ -1,5 +1,5 @@
 use Rattle.std.proofs.Common.{take}
-use Rattle.dx_base.specs.Members.{Each, behind}
+use Rattle.dx_base.specs.Members.{Each}
 use Rattle.dx_cover.specs.Pairs.{Disagree}
 use Rattle.dx_cover.proofs.pairs.is_supported.Given as goal
 

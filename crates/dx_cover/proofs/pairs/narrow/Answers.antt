@@ -1,11 +1,11 @@
-use Rattle.std.proofs.Common.{◌≡◌, ◌+◌, ◌<◌, refl, ap, sym, ◌∙◌, subst, Bor, List, [], ◌∷◌, ◌++◌, length, take, inl, inr}
+use Rattle.std.proofs.Common.{◌≡◌, ◌+◌, ◌<◌, refl, ap, sym, subst, Bor, List, [], ◌∷◌, ◌++◌, length, take, inl, inr}
 use Rattle.std.specs.Prelude.{◌⊎◌, ⊤}
 use Rattle.std.proofs.lemmas.List.{map-append}
 use Rattle.dx_base.specs.Members.{◌∈◌, Each, behind}
 use Rattle.dx_base.proofs.Members.{each_all}
 use Rattle.dx_model.specs.declared.rules.Atom.{Atom}
 use Rattle.dx_cover.specs.declared.pairs.Place.{Place}
-use Rattle.dx_cover.specs.Pairs.{Disagree, IsNeverChosen, IsShared}
+use Rattle.dx_cover.specs.Pairs.{IsNeverChosen, IsShared}
 use Rattle.dx_cover.proofs.Pairing.{behind_item, disagree_excludes, each_behind, each_pushed, one_left, one_out, unsupported}
 use Rattle.dx_cover.proofs.pairs.narrow.Goals as goal
 use Rattle.dx_cover.proofs.pairs.narrow.Goals.{then-is_supported+in_ok-push, else-is_supported}
@@ -40,14 +40,13 @@ loop-chosen-preserved c =
             one_left (λ (r : Bor Atom). r.now) never (λ b. ⊤) items c.loop-chosen.chosen-index chosen before after c.loop-chosen-test.true c.chosen-item.is more c.loop-chosen.invariant.1,
           )
       | else-is_supported w ↦
-          subst (λ v. Each (behind v.items) (λ b. length atom.cells ≡ length b.cells) × Each (take (c.loop-chosen.chosen-index + 1) items) (λ r. ⊤ → (r.now ∈ behind v.items) ⊎ never r.now)) (sym w.left-is)
-          (
+          subst (λ v. Each (behind v.items) (λ b. length atom.cells ≡ length b.cells) × Each (take (c.loop-chosen.chosen-index + 1) items) (λ r. ⊤ → (r.now ∈ behind v.items) ⊎ never r.now)) (sym w.left-is) (
             c.loop-chosen.invariant.0,
             one_out (λ (r : Bor Atom). r.now) never (λ b. ⊤) items c.loop-chosen.chosen-index chosen before c.loop-chosen-test.true c.chosen-item.is
-            (λ t. unsupported part.bound.now part.rest.now part.others.now atom chosen.now by.atom.now (behind by.left.items) c.requires.other
-            (λ d m. disagree_excludes c.deref.result.now atom chosen.now by.atom.now d (subst (λ z. Each z (IsShared atom by.atom.now)) (sym c.deref.ensures.value) c.in_ok-places.ensures) wide (c.requires.other.wide d m)
-            (c.is_supported.ensures w.if-is_supported.false d (subst (λ (z : List (Bor Atom)). d ∈ behind z) (sym c.deref-in-loop-chosen.ensures.value) m))))
-            c.loop-chosen.invariant.1,
+                (λ t. unsupported part.bound.now part.rest.now part.others.now atom chosen.now by.atom.now (behind by.left.items) c.requires.other
+                (λ d m. disagree_excludes c.deref.result.now atom chosen.now by.atom.now d (subst (λ z. Each z (IsShared atom by.atom.now)) (sym c.deref.ensures.value) c.in_ok-places.ensures) wide (c.requires.other.wide d m)
+                (c.is_supported.ensures w.if-is_supported.false d (subst (λ (z : List (Bor Atom)). d ∈ behind z) (sym c.deref-in-loop-chosen.ensures.value) m))))
+                c.loop-chosen.invariant.1,
           )
     ]
 

@@ -1,4 +1,4 @@
-use Rattle.std.proofs.Common.{◌≡◌, ◌<◌, ap, sym, subst, length, ◌∙◌}
+use Rattle.std.proofs.Common.{◌<◌, ap, sym, subst, length, ◌∙◌}
 use Rattle.dx_base.specs.Members.{Each}
 use Rattle.dx_cover.specs.Pairs.{IsShared}
 use Rattle.dx_cover.proofs.Pairing.{each_pushed, same_at}
