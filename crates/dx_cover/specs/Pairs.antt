@@ -51,7 +51,7 @@ abbrev pub IsChoice : Part → Choice → Type 0
 IsChoice part c = HasLeft part.bound.now part.rest.now part.others.now c.atom.now (behind c.left.items)
 
 -- what has become of all choices of a part of a search
-abbrev pub IsRound : Part → Round → Type 0
-IsRound part NoneLeft = (i : Rule) → maps_under i part.bound.now part.rest.now part.others.now ≡ []
-IsRound part Same = ⊤
-IsRound part (Fewer all) = Each all.items (IsChoice part)
+abbrev pub IsNarrowing : Part → Round → Type 0
+IsNarrowing part NoneLeft = (i : Rule) → maps_under i part.bound.now part.rest.now part.others.now ≡ []
+IsNarrowing part Same = ⊤
+IsNarrowing part (Fewer all) = Each all.items (IsChoice part)

@@ -7,8 +7,11 @@
 //! images of the variables that stand both before and among them. Where cell maps are below a state, the images of all
 //! exported variables met before count too; few lists of them lead to maps, since the search ends at 16. So atoms that
 //! share no variable with later ones cost no more than their number of choices. It goes no further if some atom that is left
-//! can choose none of the others any more. It is still exponential if many existential variables stand on both sides of
-//! one place. It remembers at most 4096 states with maps below them, and 4096 without; what is found doesn't rest on this.
+//! can choose none of the others any more. After some dead states it looks at the atoms two by two, again and again: what
+//! agrees with nothing that is left for another atom isn't left. Where the variables that they share hang together like
+//! trees, it comes to no more dead states so. It is still exponential if many existential variables stand on both sides of
+//! one place, in circles or with many cell maps that agree on the exported variables. It remembers at most 4096 states with
+//! maps below them, and 4096 without; what is found doesn't rest on this.
 #![tactic(auto)]
 
 mod cells;

@@ -1,14 +1,15 @@
 // What can still be chosen for the atoms that are left, found by looking at them two by two.
-ghost use Rattle.std.specs.Prelude.{◌≡◌, ◌<◌, false, IfOk, List, [], length};
+ghost use Rattle.std.specs.Prelude.{◌≡◌, ◌<◌, false, true, IfOk, List, [], length};
 ghost use Rattle.dx_base.specs.Members.{◌∈◌, Each, behind};
 ghost use Rattle.dx_model.specs.declared.rules.Atom.{Atom as AtomValue};
 ghost use Rattle.dx_model.specs.declared.rules.Rule.{Rule as RuleValue};
-ghost use Rattle.dx_cover.specs.Pairs.{Disagree, IsChoice, IsRound, IsShared, IsWithin};
+ghost use Rattle.dx_cover.specs.Pairs.{Disagree, IsChoice, IsNarrowing, IsShared, IsWithin};
+ghost use Rattle.dx_cover.specs.Partners.{IsExcluded};
 ghost use Rattle.dx_cover.specs.Search.{MeetInWidths, maps_under};
 
 use crate::cells::is_same_cell;
-use crate::partners::is_excluded;
-use crate::search::has_met;
+use crate::partners::never_meets;
+use crate::search::{has_met, is_allowed};
 use dx_model::{Atom, Meeting};
 use std::alloc::{AllocError, Global};
 
@@ -44,15 +45,51 @@ pub(crate) enum Round<'a> {
     Fewer(Vec<Choice<'a>>),
 }
 
+/// The places of the cells that have met one.
+fn met_places(alloc: Global, atom: &Atom, bound: &[Meeting]) -> Result<Vec<usize>, AllocError>
+    ensures { IfOk result (λ places. Each places.items (λ p. p < length atom.now.cells)) }
+{
+    let cells = atom.cells.items();
+    let mut places = Vec::new(alloc);
+    for place in 0..cells.len() {
+        if has_met(&cells[place], bound) {
+            places.push(place)?;
+        }
+    }
+    Ok(places)
+}
+
+/// Whether the other atom can't be chosen any more: a cell may not meet its cell, or one in these places has met another.
+fn is_excluded_at(atom: &Atom, other: &Atom, places: &[usize], bound: &[Meeting]) -> bool
+    requires width { length atom.now.cells ≡ length other.now.cells }
+    requires within { Each places.now (λ p. p < length atom.now.cells) }
+    ensures { result ≡ true → IsExcluded bound.now atom.now other.now }
+{
+    let cells = atom.cells.items();
+    let others = other.cells.items();
+    for i in 0..cells.len() {
+        if !is_allowed(&cells[i], &others[i]) {
+            return true;
+        }
+    }
+    for place in places {
+        if never_meets(&cells[*place], &others[*place], bound) {
+            return true;
+        }
+    }
+    false
+}
+
 /// The atom, with those of the others that the meetings don't exclude.
 fn choice_of<'a>(alloc: Global, atom: &'a Atom, part: &Part<'a>) -> Result<Choice<'a>, AllocError>
     requires own { atom.now ∈ part.now.rest.now }
     requires widths { MeetInWidths part.now.rest.now part.now.others.now }
     ensures { IfOk result (IsChoice part.now) }
 {
+    let met = met_places(alloc, atom, part.bound)?;
     let mut left = Vec::new(alloc);
     for other in part.others {
-        if atom.table == other.table && !is_excluded(atom, other, part.bound) {
+        if atom.table == other.table && !is_excluded_at(atom, other, &met, part.bound) {
             left.push(other)?;
         }
     }
@@ -178,7 +215,7 @@ fn narrow_all<'a>(
     part: &Part<'_>,
 ) -> Result<Round<'a>, AllocError>
     requires { Each all.now (IsChoice part.now) }
-    ensures { IfOk result (IsRound part.now) }
+    ensures { IfOk result (IsNarrowing part.now) }
 {
     let mut next = Vec::new(alloc);
     let mut is_same = true;

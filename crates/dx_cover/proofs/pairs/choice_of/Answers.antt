@@ -7,13 +7,13 @@ use Rattle.dx_model.specs.declared.rules.Atom.{Atom}
 use Rattle.dx_cover.specs.Pairs.{IsNeverChosen}
 use Rattle.dx_cover.proofs.Pairing.{each_pushed, excluded_never, one_left, one_out}
 use Rattle.dx_cover.proofs.pairs.choice_of.Goals as goal
-use Rattle.dx_cover.proofs.pairs.choice_of.Goals.{then-atom-other+then-not-is_excluded+in_ok-push, else-atom-other, else-atom-other-via-then-atom-other+else-not-is_excluded, else-atom-other-via-else-atom-other}
+use Rattle.dx_cover.proofs.pairs.choice_of.Goals.{then-atom-other+then-not-is_excluded_at+in_ok-push, else-atom-other, else-atom-other-via-then-atom-other+else-not-is_excluded_at, else-atom-other-via-else-atom-other}
 
 pub loop-other-init : goal.loop-other-init
 loop-other-init c = ((λ x m. elim (subst (λ z. x ∈ z) (ap behind c.new-left.ensures.items) m) [ ]), (λ x m. elim m [ ]))
 
-pub is_excluded-requires : goal.is_excluded-requires
-is_excluded-requires c =
+pub is_excluded_at-requires-clause-width : goal.is_excluded_at-requires-clause-width
+is_excluded_at-requires-clause-width c =
     c.requires.widths c.args.atom.now c.other-item.result c.requires.own
     (item_in c.args.part.now.others.now c.loop-other.other-index c.other-item.result c.loop-other-test.true c.other-item.is) c.if-atom-other.true
 
@@ -26,7 +26,7 @@ loop-other-preserved c =
     let after = behind c.if-atom-other.left.items in
     let never = IsNeverChosen part.bound.now part.rest.now part.others.now atom in
     elim c.if-atom-other.branch [
-      | then-atom-other+then-not-is_excluded+in_ok-push w ↦
+      | then-atom-other+then-not-is_excluded_at+in_ok-push w ↦
           let more : after ≡ before ++ other ∷ [] = rw (w.left-is, w.in_ok-push.ensures.items, map-append (λ (r : Bor Atom). r.now)) refl in (
             each_pushed (λ (b : Atom). length atom.cells ≡ length b.cells) before after other more c.loop-other.invariant.0
                 (c.requires.widths atom other c.requires.own (item_in part.others.now c.loop-other.other-index other c.loop-other-test.true c.other-item.is) w.if-atom-other.true),
@@ -38,7 +38,7 @@ loop-other-preserved c =
             c.loop-other.invariant.0,
             one_out (λ (b : Atom). b) never (λ b. atom.table ≡ b.table) part.others.now c.loop-other.other-index other before c.loop-other-test.true c.other-item.is
                 (elim w.else-atom-other.branch [
-                  | else-atom-other-via-then-atom-other+else-not-is_excluded v ↦ λ e. excluded_never part.bound.now part.rest.now part.others.now atom other (v.is_excluded.ensures v.if-not-is_excluded.false)
+                  | else-atom-other-via-then-atom-other+else-not-is_excluded_at v ↦ λ e. excluded_never part.bound.now part.rest.now part.others.now atom other (v.is_excluded_at.ensures v.if-not-is_excluded_at.false)
                   | else-atom-other-via-else-atom-other v ↦ λ e. absurd (v.if-atom-other.false e)
                 ]) c.loop-other.invariant.1,
           )
