@@ -245,14 +245,20 @@ class OnPostgres(Hostile):
     def test_silent(self) -> None:
         """What a type would alter without a word is refused: at the first load, and at the next one, which goes another
         way."""
-        self.session.run("CREATE DOMAIN price AS numeric(5,2); CREATE DOMAIN code AS varchar(3)")
+        self.session.run("CREATE DOMAIN price AS numeric(5,2); CREATE DOMAIN code AS varchar(3);"
+                         "CREATE DOMAIN cheap AS price; CREATE TYPE pair AS (a price)")
         for kind, right, wrong in [
                 ("price", "1.20", "1.239"), ("code", "abc", "abc "), ("bit(3)", "101", "10101"),
                 ("bit varying(3)", "101", "10101"), ("real", "1.5", "16777217"),
                 ("double precision", "0.30000000000000004", "9007199254740993"), ("money", "1.5", "1.505"),
                 ("timestamp(0)", "2020-01-01 10:00:00", "2020-01-01 10:00:00.7"),
                 ("time(0)", "10:00:00", "10:00:00.7"), ("date", "2020-01-01", "today"), ("interval(0)", "1 s", "1.7 s"),
-                ("timestamptz", "2020-01-01 10:00:00+00", "now"), ("time", "10:00:00", "NOW")]:
+                ("timestamptz", "2020-01-01 10:00:00+00", "now"), ("time", "10:00:00", "NOW"),
+                ("cheap", "1.20", "1.239"), ("cheap[]", "{1.20}", "{1.239}"),
+                ("varchar(3)[]", "{abc}", "{abcd}"), ("real[]", "{1.5}", "{16777217}"), ("name", "a", "a" * 64),
+                ('"char"', "a", "ab"), ("interval year", "2 years", "1 year 3 mons"), ("tsrange", "empty", "[now]"),
+                ("daterange", "empty", "[2020-01-01 10:00]"), ("date[]", "{2020-01-01}", "{2020-01-01 10:00}"),
+                ("pair", "(1.24)", "(1.239)")]:
             with self.subTest(kind=kind):
                 self.session.run(f"DROP TABLE IF EXISTS t; CREATE TABLE t (id int PRIMARY KEY, x {kind})")
                 before: Rows = []
@@ -333,6 +339,25 @@ class OnPostgres(Hostile):
                              f"CREATE SCHEMA clio_load; CREATE TABLE t (id int PRIMARY KEY, x text); CREATE {made}")
             self.source("id,x", "1,a\n")
             self.refused("clio-load", *self.words, why="clio_load.written is not the record of clio-load")
+
+    def test_a_record_that_runs_something(self) -> None:
+        """Nothing that somebody else put into the record is run; an entry that no load wrote is taken out."""
+        record = "load TEXT, table_name TEXT, key_columns TEXT, row_key TEXT"
+        for made in (f"TABLE clio_load.written ({record}, CHECK (clio_load.f(load)))",
+                     f"TABLE clio_load.written ({record}); CREATE INDEX ON clio_load.written (clio_load.f(load))",
+                     f"TABLE clio_load.written ({record}); ALTER TABLE clio_load.written ENABLE ROW LEVEL SECURITY",
+                     "DOMAIN clio_load.t AS text CHECK (clio_load.f(VALUE)); CREATE TABLE clio_load.written"
+                     f" ({record.replace('load TEXT', 'load clio_load.t')})"):
+            self.session.run(f"DROP SCHEMA IF EXISTS clio_load CASCADE; DROP TABLE IF EXISTS t;"
+                             "CREATE SCHEMA clio_load; CREATE FUNCTION clio_load.f(text) RETURNS boolean IMMUTABLE"
+                             " LANGUAGE plpgsql AS $$ BEGIN RAISE 'it ran'; END $$;"
+                             f"CREATE TABLE t (id int PRIMARY KEY, x text); CREATE {made}")
+            self.source("id,x", "1,a\n")
+            self.refused("clio-load", *self.words, why="clio_load.written is not the record of clio-load")
+        self.session.run("DROP SCHEMA clio_load CASCADE")
+        self.printed("clio-load", *self.words)
+        self.session.run("UPDATE clio_load.written SET key_columns = 'none'")
+        self.assertIn("1 equal", self.printed("clio-load", *self.words))
 
 
 del Hostile  # it is run by its subclasses alone

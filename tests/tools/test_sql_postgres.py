@@ -166,6 +166,12 @@ class Whole(Server):
         self.assertEqual(self.session.rows("SELECT * FROM target.u"), [("mine",)])
         self.assertEqual(self.session.column("SELECT tablename FROM pg_tables WHERE schemaname = 'target'"), ["u"])
 
+    def test_functions_of_others_are_not_run(self) -> None:
+        self.session.run("CREATE FUNCTION pg_try_advisory_lock(integer) RETURNS boolean LANGUAGE plpgsql AS"
+                         " $$ BEGIN RAISE 'it ran'; END $$")
+        self.addCleanup(self.session.run, "DROP FUNCTION public.pg_try_advisory_lock(integer)")
+        self.made()
+
     def test_a_clash_leaves_the_target(self) -> None:
         self.made()
         before = self.target()

@@ -19,7 +19,8 @@ class Column:
     is_identity: bool = False  # the database gives it numbers
     is_computed: bool = False
     sequence: str | None = None  # what gives it numbers, as SQL has it
-    base: str = ""  # the type that its type is made of, if that is a domain, or else its type
+    base: str = ""  # its type, or what that is made of, if it is a domain, or an array of one
+    is_row: bool = False  # whether that, or its elements, are rows of several columns
 
 
 @dataclass(frozen=True)

@@ -24,21 +24,26 @@ KINDS = {"bool": BOOLEAN, "int2": INTEGER, "int4": INTEGER, "int8": INTEGER, "nu
          "float8": NUMBER,
          "date": DATE, "timestamp": TIME, "timestamptz": TIME}
 COLUMNS = """SELECT c.relname, a.attname, pg_catalog.format_type(a.atttypid, a.atttypmod),
- coalesce(b.typname, t.typname),
- coalesce(b.typcategory, t.typcategory), a.attnotnull OR t.typnotnull, a.atthasdef OR t.typdefault IS NOT NULL,
+ CASE WHEN u.typnamespace = 'pg_catalog'::pg_catalog.regnamespace AND NOT e.is_many THEN u.typname END,
+ t.typcategory, a.attnotnull OR t.typnotnull, a.atthasdef OR t.typdefault IS NOT NULL,
  a.attidentity <> '', a.attgenerated <> '',
  pg_catalog.pg_get_serial_sequence(pg_catalog.quote_ident(n.nspname) || '.' || pg_catalog.quote_ident(c.relname),
  a.attname),
  CASE WHEN a.attcollation <> t.typcollation THEN (SELECT pg_catalog.quote_ident(s.nspname) || '.' ||
  pg_catalog.quote_ident(o.collname)
   FROM pg_catalog.pg_collation o JOIN pg_catalog.pg_namespace s ON s.oid = o.collnamespace WHERE o.oid = a.attcollation)
-  END, CASE t.typtype WHEN 'd' THEN pg_catalog.format_type(t.typbasetype, t.typtypmod) ELSE
- pg_catalog.format_type(a.atttypid, a.atttypmod) END
+  END, pg_catalog.format_type(e.type, e.size) || CASE WHEN e.is_many THEN '[]' ELSE '' END, u.typtype = 'c'
  FROM pg_catalog.pg_attribute a JOIN pg_catalog.pg_class c ON c.oid = a.attrelid JOIN pg_catalog.pg_namespace n ON n.oid
  = c.relnamespace
- JOIN pg_catalog.pg_type t ON t.oid = a.atttypid LEFT JOIN pg_catalog.pg_type b ON b.oid = t.typbasetype
+ JOIN pg_catalog.pg_type t ON t.oid = a.atttypid CROSS JOIN LATERAL
+ (WITH RECURSIVE down (step, type, size, is_many) AS (SELECT 0, a.atttypid, a.atttypmod, false UNION ALL
+   SELECT d.step + 1, CASE y.typtype WHEN 'd' THEN y.typbasetype ELSE y.typelem END,
+    CASE y.typtype WHEN 'd' THEN y.typtypmod ELSE d.size END, d.is_many OR y.typtype <> 'd'
+   FROM down AS d JOIN pg_catalog.pg_type y ON y.oid = d.type
+   WHERE y.typtype = 'd' OR y.typcategory = 'A' AND y.typlen = -1 AND y.typelem <> 0)
+  SELECT * FROM down ORDER BY step DESC LIMIT 1) AS e JOIN pg_catalog.pg_type u ON u.oid = e.type
  WHERE n.nspname = %s AND a.attnum > 0 AND NOT a.attisdropped AND c.relkind IN ('r', 'p', 'f') ORDER BY c.relname,
- a.attnum"""
+ a.attnum"""  # with the types that domains and arrays are made of
 SHARED = """SELECT c.relname FROM pg_catalog.pg_class c JOIN pg_catalog.pg_namespace n ON n.oid = c.relnamespace
  WHERE n.nspname = %s AND c.relkind = 'r' AND EXISTS (SELECT 1 FROM pg_catalog.pg_inherits i WHERE i.inhparent = c.oid)
  """
@@ -58,7 +63,14 @@ SEQUENCES = """SELECT s.oid::regclass, q.seqincrement FROM pg_class s JOIN pg_se
   AND d.classid = 'pg_class'::regclass AND d.refclassid = d.classid UNION SELECT d.refobjid FROM pg_depend d
   JOIN pg_attrdef f ON f.oid = d.objid WHERE d.classid = 'pg_attrdef'::regclass AND d.refclassid = 'pg_class'::regclass
   AND f.adrelid = {0}::regclass)"""  # those that number the columns of a table
-RECORD = """SELECT c.relkind = 'r' AND NOT c.relhasrules AND NOT c.relhastriggers,
+# the record: whether it is a plain table, which runs nothing of whoever made it; and its columns
+RECORD = """SELECT c.relkind = 'r' AND NOT c.relhasrules AND NOT c.relhastriggers AND NOT c.relrowsecurity
+ AND NOT c.relhassubclass
+ AND NOT EXISTS (SELECT 1 FROM pg_catalog.pg_constraint r WHERE r.conrelid = c.oid AND r.contype = 'c')
+ AND NOT EXISTS (SELECT 1 FROM pg_catalog.pg_index i WHERE i.indrelid = c.oid
+  AND (i.indexprs IS NOT NULL OR i.indpred IS NOT NULL))
+ AND NOT EXISTS (SELECT 1 FROM pg_catalog.pg_attribute a WHERE a.attrelid = c.oid AND a.attnum > 0
+  AND NOT a.attisdropped AND (a.atttypid <> 'text'::pg_catalog.regtype OR a.attgenerated <> '')),
  (SELECT pg_catalog.string_agg(a.attname, ', ' ORDER BY a.attnum) FROM pg_catalog.pg_attribute a
   WHERE a.attrelid = c.oid AND a.attnum > 0 AND NOT a.attisdropped)
  FROM pg_catalog.pg_class c JOIN pg_catalog.pg_namespace n ON n.oid = c.relnamespace
@@ -315,12 +327,13 @@ class Postgres(Database):
 
 def column_of(words: dict[str, str], cells: list[str | None]) -> Column:
     """A column by its row of the catalog."""
-    name, declared, plain, category, filled, has_default, is_identity, is_computed, sequence, collation, base = cells
+    (name, declared, plain, category, filled, has_default, is_identity, is_computed, sequence, collation, base,
+     is_row) = cells
     kind = KINDS.get(str(plain), TEXT if category == "S" else OTHER)
     return Column(str(name), words[str(name)], str(declared) + (f" COLLATE {collation}" if collation else ""), kind,
                   filled == "f",
                   has_default == "t" or is_identity == "t", is_identity == "t" or sequence is not None,
-                  is_computed == "t", sequence, str(base))
+                  is_computed == "t", sequence, str(base), is_row == "t")
 
 
 def listed(names: str | None) -> tuple[str, ...]:

@@ -16,62 +16,87 @@ from clio_tools.program import Refused
 
 SIZED = re.compile(r"(character varying|character)\((\d+)\)")
 SCALED = re.compile(r"numeric\(\d+,(\d+)\)")
-TIMED = re.compile(r"((?:timestamp|time|interval)[^(]*)\(\d\)(.*)")  # of so many places behind the point
+TIMED = re.compile(r"((?:timestamp|time)[^(]*)\(\d\)(.*)")  # of so many places behind the point
+INTERVAL = re.compile(r"interval[ (][^\[]+")  # one of some units, or of so many places behind the point
+RANGE = re.compile(r"(date|ts|tstz)(multi)?range(\[\])?")
 FLOATS = {"real": 6, "double precision": 15}  # so many digits are kept in any case
 ROUNDED = *FLOATS, "money"  # types that round a number
 BITS = re.compile(r"bit( varying)?\(\d+\)")
+CUT = "name", '"char"'  # types of texts that cut them
 MOVING = "now|today|tomorrow|yesterday"  # words of which dates and times are made, another one each time
 MOVING_WORDS = re.compile(MOVING.encode(), re.IGNORECASE)
+NONE = re.compile("(?!)")
 
 
 def altered(cell: str, column: Column) -> str | None:
     """A condition: the type of a column would alter a text without a word, as by rounding it."""
-    if size := SIZED.fullmatch(column.base):
-        return f"char_length({cell}) > {size[2]}"
-    if column.base.startswith("numeric("):
-        return f"({cell})::numeric <> ({cell})::{column.base}"
-    if column.base in ROUNDED:
-        kept = f"({cell})::{column.base}::{'numeric' if column.base == 'money' else 'text::numeric'}"
-        return f"CASE WHEN ({cell}) ~ '^[-+.0-9eE]*$' THEN ({cell})::numeric <> {kept} END"
-    if BITS.fullmatch(column.base):
-        return f"({cell})::bit varying <> ({cell})::{column.base}::bit varying"
-    if not is_of_time(column):
-        return None
-    moves = f"({cell}) ~* '{MOVING}'"
+    if column.is_row:
+        return f"({cell})::{column.type}::text <> ({cell})"
+    return altered_part(cell, column) if is_of_time(column) else altered_text(cell, column.base)
+
+
+def altered_text(cell: str, base: str) -> str | None:
+    """That condition for a type, or an array of one, that is no date or time."""
+    one, many = base.removesuffix("[]"), "[]" * base.endswith("[]")
+    if size := SIZED.fullmatch(one):
+        whole = "varchar" if size[1].endswith("varying") else "bpchar"
+        return f"({cell})::{whole}[] <> ({cell})::{base}::{whole}[]" if many else f"char_length({cell}) > {size[2]}"
+    if one in CUT:
+        return f"({cell})::text{many} <> ({cell})::{base}::text{many}"
+    if one.startswith("numeric("):
+        return f"({cell})::numeric{many} <> ({cell})::{base}::numeric{many}"
+    if one in ROUNDED:
+        kept = f"({cell})::{base}::{'' if one == 'money' else 'text::'}numeric{many}"
+        form = '([-+.0-9eE{}, "]|NULL)' if many else "[-+.0-9eE]"
+        return f"CASE WHEN ({cell}) ~ '^{form}*$' THEN ({cell})::numeric{many} <> {kept} END"
+    if BITS.fullmatch(one):
+        return f"({cell})::bit varying{many} <> ({cell})::{base}::bit varying{many}"
+    return None
+
+
+def altered_part(cell: str, column: Column) -> str:
+    """That condition for dates, times, ranges of them, and arrays of all these."""
+    one, many = column.base.removesuffix("[]"), "[]" * column.base.endswith("[]")
+    loses = "false"
     if column.kind == DATE:
-        return (f"CASE WHEN {moves} THEN true WHEN char_length({cell}) > 10 THEN ({cell})::timestamp <> ({cell})::date"
-                " END")
-    if timed := TIMED.fullmatch(column.base):
-        return f"CASE WHEN {moves} THEN true ELSE ({cell})::{timed[1]}{timed[2]} <> ({cell})::{column.base} END"
-    return moves
+        loses = f"char_length({cell}) > 10 AND ({cell})::timestamp <> ({cell})::date"
+    elif one == "date":
+        loses = f"({cell})::timestamp[] <> ({cell})::date[]::timestamp[]"
+    elif one.startswith("date"):
+        loses = f"({cell}) ~ ':'"
+    elif INTERVAL.fullmatch(one):
+        loses = f"({cell})::interval{many} <> ({cell})::{column.base}"
+    elif timed := TIMED.fullmatch(column.base):
+        loses = f"({cell})::{timed[1]}{timed[2]} <> ({cell})::{column.base}"
+    return f"CASE WHEN ({cell}) ~* '{MOVING}' THEN true ELSE {loses} END"
 
 
 def is_of_time(column: Column) -> bool:
-    """Whether a column has dates or times."""
-    return column.base.startswith(("date", "time", "interval"))
+    """Whether a column has dates or times, or ranges of them."""
+    return column.base.startswith(("date", "time", "interval")) or RANGE.fullmatch(column.base) is not None
 
 
 def value_of(cell: str, column: Column) -> str:
     """A value of a column in SQL; a text that would be altered becomes one that PostgreSQL refuses."""
     loses = altered(cell, column)
-    value = cell if column.kind == TEXT else f"({cell})::{column.type}"
-    if loses is None:
-        return value
-    wrong = f"{cell} || repeat('!', char_length({cell}))"
-    if column.kind != TEXT:
-        wrong = f"('no value: ' || {cell})::{column.type}"  # dates would be read behind a mere !
-    return f"CASE WHEN {loses} THEN {wrong} ELSE {value} END"
+    cast = "" if column.kind == TEXT else f"::{column.type}"
+    value = f"({cell}){cast}" if cast else cell
+    wrong = f"('no value: ' || {cell})::int::text{cast}"
+    return value if loses is None else f"CASE WHEN {loses} THEN {wrong} ELSE {value} END"
 
 
 def plain(column: Column) -> re.Pattern[str] | None:
     """A form of texts that the type of a column doesn't alter; nothing if it alters none."""
-    if size := SIZED.fullmatch(column.base):
+    base = column.base
+    if base.endswith("[]") or column.is_row or base in CUT or INTERVAL.fullmatch(base) or "range" in base:
+        return None if altered("", column) is None else NONE
+    if size := SIZED.fullmatch(base):
         return re.compile(f".{{0,{size[2]}}}", re.DOTALL)
-    if TIMED.fullmatch(column.base):
+    if TIMED.fullmatch(base):
         return re.compile("[^.]*", re.DOTALL)
-    if column.base in ROUNDED:
-        return re.compile(f"-?[0-9.]{{0,{FLOATS[column.base]}}}" if column.base in FLOATS else "-?[0-9]*")
-    if scale := SCALED.fullmatch(column.base):
+    if base in ROUNDED:
+        return re.compile(f"-?[0-9.]{{0,{FLOATS[base]}}}" if base in FLOATS else "-?[0-9]*")
+    if scale := SCALED.fullmatch(base):
         return re.compile(f"(-?[0-9]+(\\.[0-9]{{0,{scale[1]}}})?)?")
     return re.compile(".{0,10}", re.DOTALL) if column.kind == DATE else None
 

@@ -54,7 +54,7 @@ class Record:
         if self.database.value(f"SELECT 1 FROM {self.sql} WHERE {table} LIMIT 1") is None:
             return
         for text, in self.database.rows(f"SELECT DISTINCT key_columns FROM {self.sql} WHERE {table}"):
-            names = [] if str(text).endswith(" whole") else json.loads(str(text))
+            names = names_of(str(text))
             if names and all(plan.table.column(name) for name in names):
                 now, before = (self.database.key_text([f"t.{identifier(name)}" for name in listed])
                                for listed in (plan.key_names(), names))
@@ -83,3 +83,12 @@ class Record:
         self.forget(plan, f"SELECT w.row_key FROM ({self.rows_of(plan, '=')}) AS w LEFT JOIN ({keys}) AS k ON k.m = "
                           f"w.row_key"
                           " WHERE k.m IS NULL")
+
+
+def names_of(text: str) -> list[str]:
+    """The columns of a key in the record; none if rows were matched as a whole, or if this isn't what a load wrote."""
+    try:
+        names = json.loads(text)
+    except ValueError:
+        return []
+    return names if isinstance(names, list) and all(isinstance(name, str) for name in names) else []

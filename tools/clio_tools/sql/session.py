@@ -46,7 +46,7 @@ class Session(postgres.Session):
         self.helpers: set[subprocess.Popen[bytes]] = set()  # programs that ask the same server for this session
         self.giving = threading.Lock()  # held while its rows are read
         self.settings = ""
-        super().__init__(connection)
+        super().__init__(connection, search_path="")  # so that no function of somebody else is taken for the server's
         if self.connection.info.server_version >= 140000:
             self.attempt("SET client_connection_check_interval = '5s'")
         self.fate = "; the target is as it was"
