@@ -1,4 +1,5 @@
 """clio-draw's server: who is let in, how the text is saved, and how a run that is overtaken ends."""
+import contextlib
 import functools
 import http.client
 import json
@@ -19,7 +20,7 @@ from trial import PROGRAM, Trial
 from clio_tools.draw.answers import Answers
 from clio_tools.draw.folder import DRAWING, MAPPING, CannotRead, CannotSave, ChangedOnDisk, Folder, as_read
 from clio_tools.draw.helper import Helper
-from clio_tools.draw.server import Server
+from clio_tools.draw.server import MOST_WAITING, Server
 
 
 class Served(unittest.TestCase):
@@ -103,6 +104,18 @@ class Requests(Served):
                             ("edit", {"text": "", "action": []})):
             body = json.dumps(words).encode()
             self.assertEqual(self.ask("POST", f"{self.base}api/{name}", body, **good)[0], 400, (name, words))
+
+    def test_connections_without_the_secret_do_not_keep_the_page_away(self) -> None:
+        with contextlib.ExitStack() as opened:
+            others = [opened.enter_context(socket.create_connection(("127.0.0.1", self.server.server_port)))
+                      for _ in range(2 * MOST_WAITING)]
+            for one in others:
+                one.sendall(b"GET /")
+            self.assertEqual(self.ask("GET", self.base)[0], 200)
+            others[0].settimeout(20)
+            self.assertEqual(others[0].recv(1), b"")  # it is closed
+            self.assertLessEqual(len(self.server.waiting), MOST_WAITING)
+        draw_trial.until(lambda: not self.server.waiting, "all are closed")
 
     def test_headers(self) -> None:
         for path in "", "app.js":

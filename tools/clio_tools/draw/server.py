@@ -3,13 +3,17 @@
 It listens on 127.0.0.1 alone. Each address begins with a secret; the header Host has to be this server's, so that no
 other name leads here; and a request that asks for something has to come from the page itself. The page can load nothing
 from elsewhere."""
+import contextlib
 import hmac
 import http.server
 import json
 import pathlib
 import secrets
+import socket
 import sys
+import threading
 from collections.abc import Callable
+from typing import Any
 
 from ..picture.svg import STYLE
 from ..program import remark
@@ -19,6 +23,7 @@ STATIC = pathlib.Path(__file__).resolve().parent / "static"
 KINDS = {".html": "text/html; charset=utf-8", ".css": "text/css; charset=utf-8",
          ".js": "text/javascript; charset=utf-8", ".svg": "image/svg+xml"}
 MOST_BYTES = 8 << 20
+MOST_WAITING = 32  # so many connections may not have shown the secret yet
 HEADERS = {
     "Content-Security-Policy": "default-src 'none'; script-src 'self'; style-src 'self'; connect-src 'self'; "
                                "img-src 'self'; base-uri 'none'; form-action 'none'; frame-ancestors 'none'",
@@ -46,6 +51,8 @@ class Server(http.server.ThreadingHTTPServer):
         self.secret = secrets.token_urlsafe(24)
         self.files = {path.name: path.read_bytes() for path in STATIC.iterdir() if path.suffix in KINDS}
         self.files["picture.css"] = STYLE.encode()
+        self.waiting: dict[socket.socket, None] = {}  # connections that haven't shown the secret, the oldest first
+        self.lock = threading.Lock()
         super().__init__(("127.0.0.1", port), Handler)
         self.hosts = {f"{name}:{self.server_port}" for name in ("127.0.0.1", "localhost")}
 
@@ -53,6 +60,28 @@ class Server(http.server.ThreadingHTTPServer):
     def address(self) -> str:
         """Where the page is."""
         return f"http://127.0.0.1:{self.server_port}/{self.secret}/"
+
+    def process_request(self, request: Any, client_address: Any) -> None:
+        """Each connection has a thread. Whoever doesn't know the secret can't take them all: the oldest ones are
+        closed."""
+        with self.lock:
+            self.waiting[request] = None
+            oldest = next(iter(self.waiting)) if len(self.waiting) > MOST_WAITING else None
+        if oldest is not None:
+            self.known(oldest)
+            with contextlib.suppress(OSError):  # it may be closed already
+                oldest.shutdown(socket.SHUT_RDWR)
+        super().process_request(request, client_address)
+
+    def known(self, request: socket.socket) -> None:
+        """A connection waits no more."""
+        with self.lock:
+            self.waiting.pop(request, None)
+
+    def shutdown_request(self, request: Any) -> None:
+        """Closes a connection."""
+        self.known(request)
+        super().shutdown_request(request)
 
     def handle_error(self, request: object, client_address: object) -> None:
         """A browser that goes away is no fault; of others one line is reported, without what was sent."""
@@ -100,6 +129,7 @@ class Handler(http.server.BaseHTTPRequestHandler):
                                                      self.server.secret.encode()):
             raise Denied(404, "secret")
         self.name = parts[2]
+        self.server.known(self.connection)
 
     def file(self) -> Content:
         """A file of the page by its name."""
