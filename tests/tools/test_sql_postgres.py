@@ -424,6 +424,61 @@ class Several(Server):
         self.made("--servers", "servers.txt")  # which drops what the lost server kept
         self.assertEqual((self.target(), self.schemas()), (before, []))
 
+    def counted_parts(self) -> list[str | None]:
+        """How many tables with parts of a target each server has."""
+        return [session.value("SELECT count(*) FROM pg_tables WHERE schemaname LIKE 'clio\\_%\\_target'")
+                for session in self.parts[1:]]
+
+    def test_a_killed_run_leaves_no_parts(self) -> None:
+        self.made("--servers", "servers.txt")
+        before = self.target()
+        self.session.run("BEGIN; LOCK TABLE target.nulls IN ACCESS SHARE MODE")
+        run = self.begun("--servers", "servers.txt")
+        self.wait_until("SELECT EXISTS (SELECT 1 FROM pg_locks WHERE NOT granted)")
+        run.kill()
+        run.wait(60)
+        self.session.run("ROLLBACK")
+        self.wait_until("SELECT NOT EXISTS (SELECT 1 FROM pg_locks WHERE locktype = 'advisory')")
+        self.assertEqual(self.counted_parts(), ["14"] * 3)
+        self.assertEqual(self.target(), before)
+        self.made("--servers", "servers.txt")
+        self.assertEqual((self.counted_parts(), self.schemas()), (["7"] * 3, []))
+
+    def test_a_commit_whose_answer_is_lost(self) -> None:
+        """The target may have changed then, so its new parts stay."""
+        commit = Logged.commit
+
+        def lost(session: Logged) -> None:
+            commit(session)
+            raise Refused("the connection is lost")
+
+        with unittest.mock.patch.object(Logged, "commit", lost), self.assertRaises(Refused):
+            self.exchanged()
+        self.assertEqual(self.target(), self.written())
+        self.made("--servers", "servers.txt")
+        self.assertEqual((self.counted_parts(), self.schemas()), (["7"] * 3, []))
+
+    def test_work_of_another_run_stays(self) -> None:
+        """A database that is asked may be a server of another run at the same time."""
+        for session in self.parts[:2]:
+            for name in "clio_run_abc_new", "clio_run_abc_0":
+                session.run(f"CREATE SCHEMA {name}; COMMENT ON SCHEMA {name} IS"
+                            " 'work tables of a run of clio-sql; they can be dropped when it has ended'")
+        self.made("--servers", "servers.txt")
+        self.assertEqual(self.schemas(), ["clio_run_abc_0", "clio_run_abc_new"])
+
+    def test_a_server_that_refuses_leaves_the_target(self) -> None:
+        self.made("--servers", "servers.txt")
+        self.session.run("CREATE ROLE weak LOGIN")
+        self.addCleanup(self.session.run, "DROP ROLE weak")
+        places = (self.folder / "servers.txt").read_text()
+        self.file("other.txt", places.replace("user=clio dbname=part1", "user=weak dbname=part1"))
+        self.refused("clio-sql", "postgres", "--servers", "other.txt", self.place,
+                     why="server 2 of the list: PostgreSQL: permission denied for database part1; the target is as it")
+        self.assertEqual((self.target(), self.schemas()), (self.written(), []))
+        self.file("other.txt", f"{places}\n{places.splitlines()[0]} port=5432")
+        self.refused("clio-sql", "postgres", "--servers", "other.txt", self.place, why="or it is there twice")
+
     def exchanged(self, core: bool = False, many: int = 0) -> str:
         """Runs clio-sql here, with so many rows as many; what it prints with --verbose."""
         said: list[str] = []

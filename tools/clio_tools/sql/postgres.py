@@ -32,9 +32,12 @@ THERE = """SELECT c.relkind IN ('r', 'p'), coalesce(obj_description(c.oid, 'pg_c
   OR EXISTS (SELECT 1 FROM pg_description WHERE classoid = 'pg_class'::regclass AND objoid = c.oid
    AND description <> {made})
 FROM pg_class AS c JOIN pg_namespace AS n ON n.oid = c.relnamespace WHERE n.nspname = 'target' AND c.relname = {name}"""
+# schemas of runs: those of runs that ask this database, or else those in which it has parts of tables, as they are held
+# by locks of their own
 LEFT = """SELECT nspname::text FROM pg_namespace
- WHERE nspname LIKE 'clio\\_run\\_%' AND obj_description(oid, 'pg_namespace') = {work}
- AND pg_has_role(nspowner, 'USAGE')"""
+ WHERE nspname ~ '^clio_run_[0-9a-f]+{kind}$' AND obj_description(oid, 'pg_namespace') = {work}
+ AND pg_has_role(nspowner, 'USAGE') AND NOT starts_with(nspname, {but})"""
+OF_ASKING, OF_PARTS = "(_new|_[0-9]+_link)?", "_[0-9]+"
 
 
 class Postgres(Whole):
@@ -54,17 +57,26 @@ class Postgres(Whole):
         try:
             self.sessions = [Session(connection, log) for _ in range(sessions)]
             self.lock()
+            self.drop_left()
             self.begin()
         except BaseException:
             self.close()
             raise
 
     def lock(self) -> None:
-        """Keeps a second run out of the database, and drops what a run that was killed left."""
+        """Keeps a second run out of the database."""
         if not self.one.values(f"SELECT pg_try_advisory_lock({LOCK})")[0][0]:
             raise Refused("another run of clio-sql is under way in this database")
-        for name, in self.one.values(LEFT.format(work=literal(WORK))):
+
+    def drop_left(self) -> None:
+        """Drops what a run that was killed left."""
+        for name in self.left():
             self.one.made(f'DROP SCHEMA "{name}" CASCADE')
+
+    def left(self) -> list[str]:
+        """The schemas of other runs that asked this database; none of them is under way."""
+        query = LEFT.format(kind=OF_ASKING, work=literal(WORK), but=literal(self.schema))
+        return [name for name, in self.one.values(query)]
 
     def begin(self) -> None:
         """Makes the schemas of the run."""

@@ -6,7 +6,7 @@ from clio_tools.databases import postgres
 from clio_tools.databases.postgres import literal
 from clio_tools.program import Refused
 from clio_tools.sql.moving import Member
-from clio_tools.sql.postgres import LEFT, LOCK, SETTINGS, WORK
+from clio_tools.sql.postgres import LEFT, LOCK, OF_PARTS, SETTINGS, WORK
 from clio_tools.sql.session import Log, Session
 
 OPTIONS = "async_capable 'true', use_remote_estimate 'true', fetch_size '10000', batch_size '1000'"
@@ -47,16 +47,17 @@ def options(words: dict[str, str]) -> str:
 class Server:
     """One of the servers, which has a part of each table."""
 
-    def __init__(self, place: postgres.Place, run: str, log: Log) -> None:
-        self.place, self.sign, self.run = place, sign(place), run
-        self.sessions = self.session, self.sending = Session(place, log), Session(place, log)
+    def __init__(self, place: postgres.Place, number: int, run: str, log: Log) -> None:
+        """Reaches the server of a number in the list; a run has a schema there."""
+        self.place, self.sign, self.run = place, sign(place), f"{run}_{number}"
+        which = f"server {number + 1} of the list: "
+        self.sessions = self.session, self.sending = Session(place, log, which), Session(place, log, which)
         for session in self.sessions:
-            session.begin_with(f"{SETTINGS}; SET search_path = {run}")
+            session.begin_with(f"{SETTINGS}; SET search_path = {self.run}")
         if not self.session.values(f"SELECT pg_try_advisory_lock({LOCK + 1})")[0][0]:
-            raise Refused("another run of clio-sql is under way on one of the servers")
-        here = run.rsplit("_", 1)[0]  # the run, whose schemas are here too if the database that is asked has a part
-        others = f"{LEFT.format(work=literal(WORK))} AND NOT starts_with(nspname, {literal(here)})"
-        for name, in self.session.values(others):
+            raise Refused(f"another run of clio-sql is under way on server {number + 1} of the list, or it is there"
+                          " twice")
+        for name, in self.session.values(LEFT.format(kind=OF_PARTS, work=literal(WORK), but=literal(run))):
             self.session.made(f'DROP SCHEMA "{name}" CASCADE')
 
     @property
@@ -84,12 +85,19 @@ class Server:
             self.session.made(f"CREATE SCHEMA IF NOT EXISTS {self.schema(kind)}")
         self.session.made(f"COMMENT ON SCHEMA {self.run} IS {literal(WORK)}")
 
+    def close(self, parts: Sequence[str]) -> bool:
+        """Ends the sessions; drops what was worked on, and parts of a target; answers whether the parts are dropped."""
+        self.session.attempt(f"DROP SCHEMA IF EXISTS {self.schema('work')} CASCADE")
+        dropped = [self.session.attempt(f'DROP TABLE IF EXISTS {self.schema("target")}."{part}"') for part in parts]
+        self.session.close()
+        return all(dropped)
+
     def made_known(self) -> Iterator[str]:
         """What makes the server known to the one that is asked; the last has the password."""
         words = {word: value for word, value in self.place.words.items() if word != "user"}
         user = {"user": self.place.words["user"]} if "user" in self.place.words else {}
         listed = ", ".join(filter(None, [options(words), OPTIONS]))
         yield f"CREATE SERVER IF NOT EXISTS {self.sign} FOREIGN DATA WRAPPER postgres_fdw OPTIONS ({listed})"
-        yield f"DROP USER MAPPING IF EXISTS FOR CURRENT_USER SERVER {self.sign}"
         found = options({**user, **self.place.secrets})
-        yield f"CREATE USER MAPPING FOR CURRENT_USER SERVER {self.sign}" + (f" OPTIONS ({found})" if found else "")
+        yield (f"DROP USER MAPPING IF EXISTS FOR CURRENT_USER SERVER {self.sign};"
+               f" CREATE USER MAPPING FOR CURRENT_USER SERVER {self.sign}" + (f" OPTIONS ({found})" if found else ""))

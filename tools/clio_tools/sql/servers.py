@@ -32,6 +32,8 @@ PARTS = """SELECT s.srvname::text, o.option_name, o.option_value
 # whether all rows of a table are in its parts, and how many these are
 SPREAD = """SELECT relkind = 'p', (SELECT count(*) FROM pg_inherits WHERE inhparent = c.oid) FROM pg_class AS c
  WHERE c.oid = to_regclass({name})"""
+PARTED = """SELECT relname::text FROM pg_class WHERE relnamespace = {schema}::regnamespace AND relkind = 'p'
+ AND right({schema}, 4) = '_new'"""  # the tables of a target that isn't in its place
 SHAPE = """SELECT attname::text, format_type(atttypid, atttypmod) FROM pg_attribute
  WHERE attrelid = {name}::regclass AND attnum > 0 ORDER BY attnum"""
 UNLOGGED = {"log_statement": "none", "log_min_duration_statement": "-1", "log_min_error_statement": "panic"}
@@ -45,17 +47,33 @@ class Servers(Postgres):
     def __init__(self, connection: str | None, lines: Sequence[str], log: Log = unlogged) -> None:
         self.servers: list[Server] = []
         self.unpublished: list[str] = []
+        self.is_in_doubt = False  # whether it isn't known if the target has changed
         self.unlinked: set[str] = set()  # work tables of the servers that have no name in the database that is asked
         self.heads: Sequence[Null] = ()
         self.offsets: dict[int, list[int]] = {}  # for each rule the place of the first match of each server
         places = reached(lines)
         super().__init__(connection, 1, log)
         try:
-            self.servers = [Server(place, f"{self.schema}_{number}", log) for number, place in enumerate(places)]
+            self.servers = [Server(place, number, self.schema, log) for number, place in enumerate(places)]
+            self.drop_left()
             self.set_up()
         except BaseException:
             self.close()
             raise
+
+    def drop_left(self) -> None:
+        """Drops what a run that was killed left, when the servers are reached: first its parts of a target there."""
+        for name in self.left() if self.servers else ():
+            for table, in self.one.values(PARTED.format(schema=literal(name))):
+                self.drop(self.parts_of(f'{name}."{table}"'))
+            self.one.made(f'DROP SCHEMA "{name}" CASCADE')
+
+    def drop(self, parts: Sequence[tuple[str, str, str]]) -> None:
+        """Drops parts of a target on the servers that are there."""
+        for server in self.servers:
+            for sign, schema, part in parts:
+                if sign == server.sign:
+                    server.session.attempt(f'DROP TABLE IF EXISTS {schema}."{part}"')
 
     def begin(self) -> None:
         """Makes the schemas of the run; no transaction is begun, as others have to see the tables."""
@@ -65,6 +83,8 @@ class Servers(Postgres):
 
     def set_up(self) -> None:
         """Makes the servers known; the server that is asked logs no password, if this user can ask for that."""
+        for server in self.servers:  # first: one that refuses this is to be read as before
+            server.make_schemas()
         # in a schema that stays, as a server falls with its extension, and an extension with its schema
         self.one.made("CREATE SCHEMA IF NOT EXISTS clio_servers")
         self.one.made("CREATE EXTENSION IF NOT EXISTS postgres_fdw SCHEMA clio_servers")
@@ -73,7 +93,6 @@ class Servers(Postgres):
         for server in self.servers:
             for statement in server.made_known():
                 self.one.run(statement)
-            server.make_schemas()
             for kind in "source", "target", "work":
                 self.one.made(f"CREATE SCHEMA IF NOT EXISTS {server.link(kind)}")
             self.one.made(f"COMMENT ON SCHEMA {server.link('work')} IS {literal(WORK)}")
@@ -205,11 +224,12 @@ class Servers(Postgres):
         self.prepared.append((name, columns, parts))
         part = f"{self.schema.removeprefix('clio_run_')}_{len(self.prepared)}"
         self.unpublished.append(part)
+        # here first, so that what is on the servers is known here, whatever becomes of the run
+        self.link(f'{self.made_in}."{name}"', "target", part, [(column, "text") for column in columns])
         query = " UNION ALL ".join(parts)  # which CREATE TABLE AS writes in less time than INSERT
         self.counts[name] = sum(at_once([
             functools.partial(server.session.made, f'CREATE TABLE {server.schema("target")}."{part}" AS {query}')
             for server in self.servers], self.all_sessions))
-        self.link(f'{self.made_in}."{name}"', "target", part, [(column, "text") for column in columns])
 
     def publish(self) -> dict[str, int]:
         old = [found for name, _, _ in self.prepared for found in self.parts_of(f'target."{name}"')]
@@ -217,11 +237,12 @@ class Servers(Postgres):
         self.refilled.clear()  # a table on which something hangs can't be dropped: then the run fails
         for name, columns, _ in self.prepared:
             self.put(name, columns)
+        self.on_each("SELECT 1")  # a server that is lost has no part of the new target
+        self.is_in_doubt = True
         self.one.commit()
+        self.is_in_doubt = False
         self.unpublished.clear()
-        for server in self.servers:
-            for schema, part in [found[1:] for found in old if found[0] == server.sign]:
-                server.session.attempt(f'DROP TABLE IF EXISTS {schema}."{part}"')
+        self.drop(old)
         return self.counts
 
     def parts_of(self, name: str) -> list[tuple[str, str, str]]:
@@ -239,22 +260,20 @@ class Servers(Postgres):
             self.spread(f'source."{table.name}"', "source", table.name, columns, by)
 
     def close(self) -> None:
-        """Drops what was worked on, here and on the servers."""
+        """Drops what was worked on, here and on the servers. What isn't dropped there stays known here, for the next run
+        to drop it."""
         for server in self.servers:
             server.sending.close()  # first, as it may be reading what is to be dropped
         for session in self.sessions:
             session.attempt("ROLLBACK")
-            for schema in (self.schema, self.made_in, *(server.link("work") for server in self.servers)):
+        dropped = [server.close([] if self.is_in_doubt else self.unpublished) for server in self.servers]
+        schemas = [self.schema, *(server.link("work") for server in self.servers)]
+        if all(dropped) and not self.is_in_doubt:
+            schemas.append(self.made_in)
+        for session in self.sessions:
+            for schema in schemas:
                 session.attempt(f"DROP SCHEMA IF EXISTS {schema} CASCADE")
-            for server in self.servers:
-                for part in self.unpublished:
-                    session.attempt(f'DROP FOREIGN TABLE IF EXISTS {server.link("target")}."{part}"')
             session.close()
-        for server in self.servers:
-            server.session.attempt(f"DROP SCHEMA IF EXISTS {server.schema('work')} CASCADE")
-            for part in self.unpublished:
-                server.session.attempt(f'DROP TABLE IF EXISTS {server.schema("target")}."{part}"')
-            server.session.close()
 
 
 def by_bytes(sort: str) -> str:

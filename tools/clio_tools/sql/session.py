@@ -41,8 +41,10 @@ class Session(postgres.Session):
     """A session in which each statement is a transaction of its own, unless one is begun. A statement whose client is
     gone ends."""
 
-    def __init__(self, connection: str | postgres.Place | None, log: Log = unlogged) -> None:
-        self.log, self.fate = log, ""
+    def __init__(self, connection: str | postgres.Place | None, log: Log = unlogged, which: str = "") -> None:
+        """Begins a session; what goes wrong is reported with `which` before it, which says of several servers which
+        one this is."""
+        self.log, self.which, self.fate = log, which, ""
         self.helpers: set[subprocess.Popen[bytes]] = set()  # programs that ask the same server for this session
         self.giving = threading.Lock()  # held while its rows are read
         self.settings = ""
@@ -61,7 +63,7 @@ class Session(postgres.Session):
         cause = CAUSES.get(sqlstate or "")
         if not cause and sqlstate is None and self.fate:
             cause = "the connection is lost"
-        return postgres.DatabaseError((f"{cause}: {said}" if cause else said) + self.fate, sqlstate)
+        return postgres.DatabaseError(self.which + (f"{cause}: {said}" if cause else said) + self.fate, sqlstate)
 
     def begin_with(self, settings: str) -> None:
         """Runs statements that its helpers run too."""
@@ -125,12 +127,13 @@ class Session(postgres.Session):
         self.made("COMMIT")
         self.fate = "; the target has changed"
 
-    def attempt(self, sql: str) -> None:
-        """Runs a statement that may fail."""
+    def attempt(self, sql: str) -> bool:
+        """Runs a statement that may fail; answers whether it was run."""
         try:
             self.run(sql)
         except postgres.DatabaseError:
-            pass
+            return False
+        return True
 
 
 def at_once(works: Sequence[Callable[[], Answer]], sessions: Sequence[Session]) -> list[Answer]:
