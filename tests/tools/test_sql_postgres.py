@@ -458,6 +458,15 @@ class Several(Server):
         self.made("--servers", "servers.txt")
         self.assertEqual((self.counted_parts(), self.schemas()), (["7"] * 3, []))
 
+    def test_a_foreign_server_that_leads_elsewhere(self) -> None:
+        name = self.session.value("SELECT srvname FROM pg_foreign_server"
+                                  " WHERE EXISTS (SELECT 1 FROM unnest(srvoptions) AS o WHERE o = 'dbname=part1')")
+        for change in "SET dbname 'part2'", "ADD hostaddr '192.0.2.1'":
+            self.session.run(f"ALTER SERVER {name} OPTIONS ({change})")
+            self.refused("clio-sql", "postgres", "--servers", "servers.txt", self.place,
+                         why=f"the foreign server {name} in the database that is asked leads elsewhere")
+            self.session.run(f"ALTER SERVER {name} OPTIONS (SET dbname 'part1')")
+
     def test_work_of_another_run_stays(self) -> None:
         """A database that is asked may be a server of another run at the same time."""
         for session in self.parts[:2]:

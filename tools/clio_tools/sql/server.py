@@ -8,8 +8,10 @@ from clio_tools.program import Refused
 from clio_tools.sql.moving import Member
 from clio_tools.sql.postgres import LEFT, LOCK, OF_PARTS, SETTINGS, WORK
 from clio_tools.sql.session import Log, Session
+from clio_tools.sql.work import Row
 
 OPTIONS = "async_capable 'true', use_remote_estimate 'true', fetch_size '10000', batch_size '1000'"
+LEADING = "host", "hostaddr", "port", "dbname", "service"  # words of a connection that say where it leads
 READS = "BEGIN ISOLATION LEVEL REPEATABLE READ"
 
 
@@ -37,6 +39,11 @@ def sign(place: postgres.Place) -> str:
     """The name of a server, which doesn't depend on who asks."""
     words = sorted((word, value) for word, value in place.words.items() if word != "user")
     return "clio_" + hashlib.sha256(repr(words).encode()).hexdigest()[:12]
+
+
+def leading(words: dict[str, str]) -> dict[str, str]:
+    """The words of a connection that say where it leads."""
+    return {word: value for word, value in words.items() if word in LEADING}
 
 
 def options(words: dict[str, str]) -> str:
@@ -91,6 +98,10 @@ class Server:
         dropped = [self.session.attempt(f'DROP TABLE IF EXISTS {self.schema("target")}."{part}"') for part in parts]
         self.session.close()
         return all(dropped)
+
+    def is_known_as(self, found: Sequence[Row]) -> bool:
+        """Whether the options of the server as it is known where it is asked lead here."""
+        return leading(dict(found)) == leading(self.place.words)
 
     def made_known(self) -> Iterator[str]:
         """What makes the server known to the one that is asked; the last has the password."""

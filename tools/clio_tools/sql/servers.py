@@ -13,6 +13,7 @@ from collections.abc import Sequence
 
 from clio_tools.databases.postgres import literal
 from clio_tools.mapping.text import Set
+from clio_tools.program import Refused
 from clio_tools.sql.gathering import Gathering
 from clio_tools.sql.moving import Goes, Member, Moving, by_hash, by_number
 from clio_tools.sql.postgres import WORK, Postgres
@@ -34,6 +35,8 @@ SPREAD = """SELECT relkind = 'p', (SELECT count(*) FROM pg_inherits WHERE inhpar
  WHERE c.oid = to_regclass({name})"""
 PARTED = """SELECT relname::text FROM pg_class WHERE relnamespace = {schema}::regnamespace AND relkind = 'p'
  AND right({schema}, 4) = '_new'"""  # the tables of a target that isn't in its place
+KNOWN = """SELECT o.option_name, o.option_value FROM pg_foreign_server, pg_options_to_table(srvoptions) AS o
+ WHERE srvname = {sign}"""
 SHAPE = """SELECT attname::text, format_type(atttypid, atttypmod) FROM pg_attribute
  WHERE attrelid = {name}::regclass AND attnum > 0 ORDER BY attnum"""
 UNLOGGED = {"log_statement": "none", "log_min_duration_statement": "-1", "log_min_error_statement": "panic"}
@@ -91,8 +94,12 @@ class Servers(Postgres):
         for setting, value in UNLOGGED.items():
             self.one.attempt(f"SET {setting} = {literal(value)}")
         for server in self.servers:
-            for statement in server.made_known():
-                self.one.run(statement)
+            known, user = server.made_known()
+            self.one.run(known)
+            if not server.is_known_as(self.one.values(KNOWN.format(sign=literal(server.sign)))):
+                raise Refused(f"the foreign server {server.sign} in the database that is asked leads elsewhere than the"
+                              " list says: drop it")
+            self.one.run(user)
             for kind in "source", "target", "work":
                 self.one.made(f"CREATE SCHEMA IF NOT EXISTS {server.link(kind)}")
             self.one.made(f"COMMENT ON SCHEMA {server.link('work')} IS {literal(WORK)}")
@@ -260,8 +267,8 @@ class Servers(Postgres):
             self.spread(f'source."{table.name}"', "source", table.name, columns, by)
 
     def close(self) -> None:
-        """Drops what was worked on, here and on the servers. What isn't dropped there stays known here, for the next run
-        to drop it."""
+        """Drops what was worked on, here and on the servers. What isn't dropped there stays known here, so the next run
+        drops it."""
         for server in self.servers:
             server.sending.close()  # first, as it may be reading what is to be dropped
         for session in self.sessions:
