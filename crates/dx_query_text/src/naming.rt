@@ -19,12 +19,13 @@ fn check_width(part: &PartText, width: u32) -> Result<(), TextFault>
     ensures fault { IfErr result (λ e. width_fault width part.now ≡ Some e) }
 {
     if part.answer.len() == u64::from(width) {
-        return Ok(());
+        Ok(())
+    } else {
+        Err(TextFault::At {
+            place: part.place,
+            kind: TextKind::Width,
+        })
     }
-    Err(TextFault::At {
-        place: part.place,
-        kind: TextKind::Width,
-    })
 }
 
 // Refuses a name that isn't known.
@@ -33,16 +34,11 @@ fn check_cell(cell: &CellText, known: &Names) -> Result<(), TextFault>
     ensures fault { IfErr result (λ e. answer_cell_fault known.now cell.now ≡ Some e) }
 {
     match cell {
-        CellText::Name { name, place } => {
-            if known.find(name).is_some() {
-                return Ok(());
-            }
-            Err(TextFault::At {
-                place: *place,
-                kind: TextKind::Unsafe,
-            })
-        }
-        CellText::Literal(_) => Ok(()),
+        CellText::Name { name, place } if known.find(name).is_none() => Err(TextFault::At {
+            place: *place,
+            kind: TextKind::Unsafe,
+        }),
+        _ => Ok(()),
     }
 }
 
@@ -76,10 +72,10 @@ fn width(parts: &[PartText]) -> u32
     requires { Each parts.now PartHasFewCells }
     ensures { result ≡ width_of parts.now }
 {
-    if parts.is_empty() {
-        return 0;
+    match parts {
+        [first, ..] => first.answer.len() as u32,
+        [] => 0,
     }
-    parts[0].answer.len() as u32
 }
 
 /// The query of these parts.
