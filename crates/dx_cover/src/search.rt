@@ -280,8 +280,8 @@ pub(crate) fn look_ahead(
     Ok(Outlook::Open)
 }
 
-/// Whether it can be seen that no cell map begins with these meetings: in the atoms one by one, and two by two if the search
-/// has come to many dead states.
+/// Whether it can be seen that no cell map begins with these meetings: by the atoms one by one, and two by two if there are
+/// many dead states.
 fn is_hopeless(
     alloc: Global,
     rest: &[Atom],
