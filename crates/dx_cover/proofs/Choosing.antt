@@ -1,5 +1,5 @@
 -- Atoms for which none of the others can be chosen.
-use Rattle.std.proofs.Common.{◌≡◌, ◌<◌, ℕ, zero, suc, Bool, true, false, List, [], ◌∷◌, ◌++◌, inl, inr, refl, sym, ap, subst, arith, length, get_or}
+use Rattle.std.proofs.Common.{◌≡◌, ◌<◌, ℕ, zero, suc, Bool, true, false, List, [], ◌∷◌, ◌++◌, inl, inr, refl, sym, ◌∙◌, ap, subst, arith, length, get_or}
 use Rattle.std.specs.Prelude.{◌&&◌, eqb, map, not}
 use Rattle.std.specs.List.{filter}
 use Rattle.std.proofs.lemmas.Bool.{and_parts, cases_Bool, eqb-true}
@@ -12,9 +12,9 @@ use Rattle.dx_model.specs.declared.rules.Rule.{Rule}
 use Rattle.dx_model.specs.declared.covers.Meeting.{Meeting}
 use Rattle.dx_model.specs.Covers.{choices, first_met, is_cell_map, map_of, may_meet, meet, meetings, same_cell}
 use Rattle.dx_cover.specs.Partners.{HasNoChoice, IsExcluded, NeverMeet}
-use Rattle.dx_cover.specs.Search.{has_met_in, maps_under}
-use Rattle.dx_cover.proofs.Extending.{met_one}
-use Rattle.dx_cover.proofs.Searching.{filter_none, first_kept}
+use Rattle.dx_cover.specs.Search.{branch, has_met_in, maps_under}
+use Rattle.dx_cover.proofs.Extending.{chosen, met_one}
+use Rattle.dx_cover.proofs.Searching.{filter_none, first_kept, no_map_no_more}
 
 -- ---- a cell
 
@@ -79,3 +79,8 @@ no_partner i bound rest others a m none =
     let w = from_map (λ bs. bound ++ meetings rest bs) (choices rest others) k in
     let b = chosen_one rest others w.0 a m w.1 in
     subst (λ z. is_cell_map z ≡ false) w.2 (none b.0 b.1 b.2 (meetings rest w.0) b.3)))
+
+-- what the meetings exclude gives no cell map
+pub excluded_branch : (i : Rule) (bound : List Meeting) (a : Atom) (rest others : List Atom) (b : Atom) → a.table ≡ b.table → IsExcluded bound a b → branch i bound a rest others b ≡ []
+excluded_branch i bound a rest others b e x =
+    sym (chosen i bound a rest others b e) ∙ no_map_no_more i (bound ++ meet a.cells b.cells) rest others (x (meet a.cells b.cells) (λ m k. k))

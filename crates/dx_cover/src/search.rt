@@ -10,7 +10,7 @@ ghost use Rattle.dx_cover.specs.States.{IsSearch, IsTrueFor, last, same_state, s
 
 use crate::cells::is_same_cell;
 use crate::pairs::{Part, have_choices};
-use crate::partners::have_partners;
+use crate::partners::{have_partners, is_excluded};
 use crate::problem::Problem;
 use crate::states::{Search, State, is_known, make_state, remember};
 use crate::variables::{existentials, exported};
@@ -378,7 +378,7 @@ pub(crate) fn extend_by_choice(
     let start = bound.len();
     let mut any = false;
     for other in problem.others {
-        if first.table == other.table {
+        if first.table == other.table && !is_excluded(first, other, bound.as_slice()) {
             let cells = first.cells.items();
             add_meetings(bound, cells, other.cells.items())?;
             any |= extend(alloc, problem, after, bound, search)?;
