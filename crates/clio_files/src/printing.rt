@@ -10,11 +10,10 @@ use crate::printed::Printed;
 use crate::sheets::{fold_file, nulls_file};
 use crate::tables::push_tables;
 use crate::texts::print_texts;
+use clio_accept::Mapping;
 use dx_base::{Items, Text};
 use dx_exchange::{Exchange, Mode};
 use dx_funcs::{Host, Meaning};
-use dx_model::Rule;
-use dx_schema::Schema;
 use std::alloc::{AllocError, Global};
 
 /// How an exchange is printed: the mode of its script, and whether each target root is printed as a document too.
@@ -24,17 +23,15 @@ pub struct Output {
     pub nested: bool,
 }
 
-/// The files of an exchange, in order: the rules, their script in this mode, each target table, what the nulls of the target
-/// stand for, the fold, and, if they are asked for, each target root with its inner sets as a document.
+/// The files of an exchange of a mapping, in order: its rules, their script in this mode, each target table, what the
+/// nulls of the target stand for, the fold, and, if they are asked for, each target root with its inner sets as a document.
 ///
 /// # Errors
 ///
 /// Out of memory.
 pub fn print_files<F, M>(
     alloc: Global,
-    rules: &[Rule],
-    source: &Schema,
-    target: &Schema,
+    mapping: &Mapping,
     exchange: &Exchange,
     host: &Host<F, M>,
     output: Output,
@@ -42,18 +39,18 @@ pub fn print_files<F, M>(
 where
     F: Fn(u32, &Items<Text>) -> Result<Text, AllocError>,
     M: Meaning,
-    requires texts { FitTexts source.now target.now (offered host.now) rules.now }
-    requires fits { FitsFiles rules.now target.now exchange.now }
-    ensures { IfOk result (λ ps. AreFiles source.now target.now (offered host.now) output.mode output.nested rules.now
-        exchange.now (map printed_view ps.items)) }
+    requires texts { FitTexts mapping.now.source mapping.now.target (offered host.now) mapping.now.rules }
+    requires fits { FitsFiles mapping.now.rules mapping.now.target exchange.now }
+    ensures { IfOk result (λ ps. AreFiles mapping.now.source mapping.now.target (offered host.now) output.mode output.nested
+        mapping.now.rules exchange.now (map printed_view ps.items)) }
 {
     let nulls = nulls_of(alloc, &exchange.target)?;
-    let mut printed = print_texts(alloc, rules, source, target, host, output.mode)?;
-    push_tables(alloc, "", target, &exchange.target, &mut printed)?;
-    printed.push(nulls_file(alloc, rules, &exchange.matches, &nulls)?)?;
+    let mut printed = print_texts(alloc, mapping, host, output.mode)?;
+    push_tables(alloc, "", &mapping.target, &exchange.target, &mut printed)?;
+    printed.push(nulls_file(alloc, mapping.rules.items(), &exchange.matches, &nulls)?)?;
     printed.push(fold_file(alloc, &exchange.fold)?)?;
     if output.nested {
-        push_roots(alloc, target, &exchange.target, &mut printed)?;
+        push_roots(alloc, &mapping.target, &exchange.target, &mut printed)?;
     }
     Ok(printed)
 }

@@ -1,5 +1,5 @@
 -- What a run answers if nothing outside fails.
-use Rattle.std.proofs.Common.{◌≡◌, ◌⊎◌, ℕ, List, refl, sym, ◌∙◌, ap, subst, inl, inr, Option, Some, Ok, Bool}
+use Rattle.std.proofs.Common.{◌≡◌, ◌⊎◌, ℕ, List, refl, sym, ◌∙◌, ap, subst, inl, inr, Some, Ok, Bool}
 use Rattle.std.proofs.lemmas.Option.{same_Some}
 use Rattle.dx_ports.specs.Faults.{Rose}
 use Rattle.dx_keys.specs.declared.answers.Clash.{Clash}
@@ -38,7 +38,7 @@ use Rattle.clio_top.specs.Promises.{AsksFor}
 use Rattle.clio_steps.specs.declared.texts.Side.TheVariants.{First}
 use Rattle.clio_top.specs.Completing.{AnswersArePlanned, AnswersClash, Completes, CompletesDemo, DemoIsPlanned, HasDone, HasNoFault, MappingIsShown, NoAnswerIsAClash, OrMemory, SolutionIsPlanned}
 use Rattle.clio_answer.specs.Answering.{answers, query_stages}
-use Rattle.clio_answer.specs.Outcomes.{HasFewAnswers, HasQueryIn}
+use Rattle.clio_answer.specs.Outcomes.{HasQueryIn}
 use Rattle.clio_top.proofs.Asking.{in_order}
 use Rattle.clio_steps.proofs.Clashes.{clash_there}
 use Rattle.clio_top.proofs.Clashes.{demo_clashes, no_solution}

@@ -1,5 +1,5 @@
 -- Names of files that a run may ask for or put, and names that it never does.
-use Rattle.std.proofs.Common.{◌≡◌, ◌++◌, ℕ, List, [], ◌∷◌, drop, get_or, refl, sym, subst, inl, inr, ap, arith}
+use Rattle.std.proofs.Common.{◌≡◌, ◌++◌, ℕ, List, drop, get_or, refl, subst, inl, inr, ap, arith}
 use Rattle.std.specs.Prelude.{codes}
 use Rattle.dx_base.specs.Members.{◌∈◌, here, there}
 use Rattle.dx_base.proofs.Members.{from_append}

@@ -1,5 +1,5 @@
 -- The names of the files that a run asks for and puts.
-use Rattle.std.proofs.Common.{◌≡◌, ◌⊎◌, ◌<◌, ℕ, suc, List, [], ◌∷◌, ◌++◌, length, refl, sym, ◌∙◌, ap, subst, inl, inr, arith, Bool, true, false, Option, Some, None, append_assoc}
+use Rattle.std.proofs.Common.{◌≡◌, ◌⊎◌, ◌<◌, ℕ, suc, List, [], ◌∷◌, ◌++◌, length, refl, sym, ap, subst, inl, inr, arith, Bool, true, false, Option, Some, None, append_assoc}
 use Rattle.std.specs.Prelude.{codes, if◌then◌else◌}
 use Rattle.dx_base.specs.Entries.{Entry}
 use Rattle.dx_base.specs.Members.{◌∈◌, here, there, Each}
@@ -26,7 +26,7 @@ use Rattle.clio_accept.specs.Laws.{MappingFits}
 use Rattle.clio_source.specs.Source.{RootShape, csv_name, json_name, named_by, roots, shape_at}
 use Rattle.clio_source.specs.Source as shapes
 use Rattle.clio_source.proofs.Roots.{is_root}
-use Rattle.clio_given.specs.Given.{TargetRequest, given_name}
+use Rattle.clio_given.specs.Given.{TargetRequest}
 use Rattle.clio_files.specs.Comparisons.{AreComparedFiles, AreDirectionFiles, source_front, target_front}
 use Rattle.clio_files.specs.Answers.{answer_files}
 use Rattle.clio_files.specs.Files.{AreFiles, AreTableFiles, files_of}

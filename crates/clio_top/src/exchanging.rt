@@ -36,10 +36,8 @@ where
     requires fits { FitsFiles mapping.now.rules mapping.now.target exchange }
     ensures { IfOk result (λ p. IsPlanOf (offered host.now) mode nested mapping.now exchange (planned_of p)) }
 {
-    let rules = mapping.rules.items();
-    let Mapping { source, target, .. } = mapping;
     let output = Output { mode, nested };
-    let printed = print_files(alloc, rules, source, target, &exchange, host, output)?;
+    let printed = print_files(alloc, mapping, &exchange, host, output)?;
     let text = summary(alloc, &printed)?;
     let files = into_files(alloc, printed)?;
     Ok(Plan {

@@ -31,9 +31,7 @@ where
     requires { CanBeWritten (offered host.now) mapping.now exchange.now }
     ensures { IfOk result (λ fs. AreFilesOf (offered host.now) mode nested mapping.now exchange.now (entries_of fs.items)) }
 {
-    let rules = mapping.rules.items();
-    let Mapping { source, target, .. } = mapping;
     let output = Output { mode, nested };
-    let printed = print_files(alloc, rules, source, target, exchange, host, output)?;
+    let printed = print_files(alloc, mapping, exchange, host, output)?;
     into_files(alloc, printed)
 }

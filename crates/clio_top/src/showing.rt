@@ -32,8 +32,7 @@ where
     requires { FitTexts mapping.now.source mapping.now.target (offered host.now) mapping.now.rules }
     ensures { IfOk result (λ p. planned_of p ≡ shown_plan (offered host.now) mode mapping.now) }
 {
-    let rules = mapping.rules.items();
-    let printed = print_texts(alloc, rules, &mapping.source, &mapping.target, host, mode)?;
+    let printed = print_texts(alloc, mapping, host, mode)?;
     let text = contents(alloc, &printed)?;
     Ok(Plan {
         done: Done::Shown,

@@ -1,4 +1,4 @@
-use Rattle.std.proofs.Common.{[], map, refl}
+use Rattle.std.proofs.Common.{◌≡◌, [], map, refl, subst}
 use Rattle.std.specs.Prelude.{if◌then◌else◌}
 use Rattle.dx_funcs.specs.Serving.{offered}
 use Rattle.dx_instance.specs.NullMaps.{pairs_of}
@@ -16,17 +16,20 @@ use Rattle.clio_files.proofs.printing.print_files.Goals.{then-output+in_ok-push_
 pub returns : goal.returns
 returns g c =
     let e = c.args.exchange.now in
-    let target = c.args.target.now in
+    let target = c.args.mapping.now.target in
     let nested = c.args.output.nested in
-    let texts = texts_told c.args.source.now target (offered c.args.host.now) c.args.output.mode c.args.rules.now in
-    let nulls = file_of (nulls_sheet c.args.rules.now e.matches c.in_ok-nulls.nulls.items) in
+    let texts = texts_told c.args.mapping.now.source target (offered c.args.host.now) c.args.output.mode c.args.mapping.now.rules in
+    let nulls = file_of (nulls_sheet c.args.mapping.now.rules e.matches c.in_ok-nulls.nulls.items) in
     let fold = file_of (fold_sheet (pairs_of e.fold)) in
     let added = c.in_ok-push_tables.ensures in
     let before = map printed_view c.push-2.new.self.items in
     let all = map printed_view c.if-output.printed.items in
+    let records =
+    subst (λ R. printed_view c.in_ok-nulls_file.field-0 ≡ file_of (nulls_sheet R e.matches c.in_ok-nulls.nulls.items)) c.items.ensures
+    (rw c.deref.ensures.value at c.in_ok-nulls_file.ensures) in
     let two =
     two_more c.push_tables.new.files.items c.push.new.self.items c.push-2.new.self.items c.in_ok-nulls_file.field-0
-    c.in_ok-fold_file.field-0 nulls fold (rw c.deref.ensures.value at c.in_ok-nulls_file.ensures) c.in_ok-fold_file.ensures
+    c.in_ok-fold_file.field-0 nulls fold records c.in_ok-fold_file.ensures
     c.in_ok-push.ensures.items c.in_ok-push-2.ensures.items in
     let parts =
     four_parts texts added.tables (map printed_view c.in_ok-printed.printed.items) (map printed_view c.push_tables.new.files.items) before nulls fold

@@ -3,16 +3,10 @@ use Rattle.clio_files.specs.Files.{printed_view}
 use Rattle.clio_ending.specs.declared.ending.Done.TheVariants.{Exchanged}
 use Rattle.clio_top.proofs.exchanging.plan_exchange.Goals as goal
 
-pub print_files-requires-clause-texts : goal.print_files-requires-clause-texts
-print_files-requires-clause-texts g c = rw c.items-rules.ensures c.requires.texts
-
-pub print_files-requires-clause-fits : goal.print_files-requires-clause-fits
-print_files-requires-clause-fits g c = rw c.items-rules.ensures c.requires.fits
-
 pub returns : goal.returns
 returns g c =
     let text = rw c.deref.ensures.value at c.in_ok-text.ensures in (
       map printed_view c.in_ok-printed.printed.items,
-      rw c.items-rules.ensures at c.in_ok-printed.ensures,
+      c.in_ok-printed.ensures,
       (λ i. record { done = Exchanged c.args.exchange; files = c.in_ok-files.ensures i; text = text i }),
     )
