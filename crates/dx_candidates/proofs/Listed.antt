@@ -30,7 +30,7 @@ use Rattle.dx_candidates.specs.Pairs.{IsSoundSchema, variant_at, pair_by, pair_a
 use Rattle.dx_candidates.proofs.Paired.{at_item, item_has, pairs_are}
 use Rattle.dx_candidates.proofs.Readable.{are_variants, are_read, are_reached, have_variables}
 use Rattle.dx_candidates.proofs.Lists.{flat_by_numbers, any_by_numbers}
-use Rattle.dx_parts.proofs.Decide.{greatest_parts_decide}
+use Rattle.dx_candidates.proofs.Decide.{greatest_parts_decide}
 use Rattle.dx_base.proofs.Tests.{flat_map_same, any_same, map_same}
 use Rattle.dx_lines.proofs.Sources.{from_variants, is_unfolding}
 
