@@ -10,6 +10,9 @@ from clio_tools.program import Refused
 from clio_tools.safe_files import Fresh, replaced
 
 
+MAPPING = "mapping 1; source { set a { x; } } target { set t { y; } } line a.x -> t.y;"
+
+
 class SafeFiles(Trial):
     def names(self) -> list[str]:
         return sorted(path.name for path in self.folder.iterdir())
@@ -108,6 +111,33 @@ class Tools(Trial):
         os.rename(self.folder / "out", self.folder / "other")
         os.symlink("other", self.folder / "out")
         self.refused("clio-report", why="out is a link to other")
+
+    def endless(self, path: pathlib.Path, is_pipe: bool) -> None:
+        """Puts a pipe, or a link to a device, into a place."""
+        if is_pipe:
+            os.mkfifo(path)
+        else:
+            path.symlink_to("/dev/zero")
+
+    def test_what_never_ends_is_not_read(self) -> None:
+        """A text or a source file in a folder of somebody else may be a pipe, or a link to a device."""
+        text, source = self.folder / "mapping.clio", self.folder / "a.csv"
+        for is_pipe in False, True:
+            text.unlink(missing_ok=True)
+            source.unlink(missing_ok=True)
+            self.endless(text, is_pipe)
+            for words in (["clio-picture"], ["clio-report"], ["clio-why", "t", "x"], ["clio-ids", "ids.db"],
+                          ["clio-tables", "postgres"], ["clio-given", "sqlite", "x.db"], ["clio-load", "sqlite", "x.db"],
+                          ["clio-rules", "--propose"]):
+                self.refused(*words, why="mapping.clio is no file: take it away")
+            text.unlink()
+            text.write_text(MAPPING)
+            self.endless(source, is_pipe)
+            self.refused("clio-tables", "source", why="a.csv is no file: take it away")
+        os.symlink("/dev/zero", self.folder / "a.json")
+        self.refused("clio-draft", "json", "a.json", why="a.json is a device, and no file")
+        text.write_text(f"{MAPPING}//{'x' * (1 << 20)}")
+        self.refused("clio-tables", "postgres", why="mapping.clio is longer than clio reads")
 
 
 if __name__ == "__main__":

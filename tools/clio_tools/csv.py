@@ -13,7 +13,7 @@ import pathlib
 from collections.abc import Iterable, Iterator
 
 from clio_tools.program import Refused, counted
-from clio_tools.safe_files import replaced
+from clio_tools.safe_files import check_file, replaced
 
 Path = str | os.PathLike[str]
 Row = list[str]
@@ -67,6 +67,7 @@ def read_records(path: Path, delimiter: str = ",", strict: bool = False) -> Iter
     If strict, so are a quote that is never closed, and text between a closing quote and the end of its field.
     """
     given = 0
+    check_file(pathlib.Path(path))
     try:
         with open(path, newline="", encoding="utf-8-sig") as file:
             for given, fields in enumerate(filter(None, csv.reader(file, delimiter=delimiter, strict=strict)), 1):

@@ -1,4 +1,4 @@
-"""Files that take their place whole or not at all.
+"""Files that take their place whole or not at all, and files that may be somebody else's.
 
 A new file is made beside the old one under a name that nobody can foresee, and takes its place when it is whole. So a
 link there is replaced, and what it leads to stays as it was; a pipe, a socket, a device or a folder is refused. No
@@ -17,6 +17,26 @@ from clio_tools.program import Refused
 
 KINDS = {stat.S_IFDIR: "a folder", stat.S_IFIFO: "a pipe", stat.S_IFSOCK: "a socket", stat.S_IFCHR: "a device",
          stat.S_IFBLK: "a device"}
+
+
+MOST_TEXT = 1 << 20  # clio reads no longer text, such as mapping.clio
+MOST_DATA = 64 << 20  # and no longer source file
+
+
+def check_file(path: pathlib.Path) -> None:
+    """Refuses what is there and is no file, as a pipe or a link to a device: it may never end."""
+    if path.exists() and not path.is_file():
+        raise Refused(f"{path} is no file: take it away")
+
+
+def content_of(path: pathlib.Path, most: int = MOST_TEXT) -> bytes:
+    """The bytes of a file that clio reads too; what is no file, and what is longer, is refused."""
+    check_file(path)
+    with path.open("rb") as file:
+        content = file.read(most + 1)
+    if len(content) > most:
+        raise Refused(f"{path} is longer than clio reads")
+    return content
 
 
 def check_place(path: pathlib.Path) -> int | None:

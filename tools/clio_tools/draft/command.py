@@ -65,6 +65,7 @@ from clio_tools.draft.text import side_text
 from clio_tools.draft.texts import Texts
 from clio_tools.mapping.text import Set, read_sets
 from clio_tools.program import Refused, remark, run
+from clio_tools.safe_files import content_of
 
 TableBase = sqlite.Base | postgres.Base | delimited.Base
 Base = TableBase | document.Base
@@ -125,7 +126,7 @@ def wanted_sets(base: Base, side: Side, mapping: str | None) -> list[Wanted]:
     if mapping is None:
         return [(table, [column.word for column in table.said], None) for table in side.said]
     try:
-        sets = read_sets(pathlib.Path(mapping).read_text(encoding="utf-8", errors="replace"))["source"]
+        sets = read_sets(content_of(pathlib.Path(mapping)).decode("utf-8", "replace"))["source"]
     except ValueError as error:
         raise Refused(f"{mapping}: {error}") from None
     hint = "; a set has the name of its file" if isinstance(base, (delimited.Base, document.Base)) else ""
@@ -178,7 +179,7 @@ def work(words: list[str]) -> None:
     side = Side(given.side, base.tables(), given.drawing)
     if given.lines_from:
         texts = texts_of(base, side, pathlib.Path(given.data)) if given.data else None
-        proposed = proposals(pathlib.Path(given.lines_from).read_bytes(), side, texts)
+        proposed = proposals(content_of(pathlib.Path(given.lines_from)), side, texts)
         print(side_text(side) + proposed, end="")
         return
     if given.data:

@@ -182,6 +182,8 @@ def shape_of(array: Iterable[Object]) -> Shape:
 
 def values_of(path: pathlib.Path) -> Value:
     """The document of a file, or those of its lines as one array."""
+    if path.is_char_device() or path.is_block_device():
+        raise Refused(f"{path} is a device, and no file")
     content = path.read_bytes()
     try:
         return clio_json.parse(content, path, twice=False)

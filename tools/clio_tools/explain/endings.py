@@ -11,6 +11,8 @@ from clio_tools.explain.placed import MappingText
 from clio_tools.explain.said import visible
 from clio_tools.explain.source import file_of
 from clio_tools.mapping.tables import tables_of
+from clio_tools.program import Refused
+from clio_tools.safe_files import content_of
 
 MOST_OF_LIMITS = 40  # lines that are said of a limit, whatever the mapping
 SIGNALS: dict[int, str] = {signal.SIGSEGV: ": the stack ran out", signal.SIGKILL: ": memory may have run out"}
@@ -20,8 +22,8 @@ OPTIONS = {"show": {"--core"}, "exchange": {"--core", "--nested"}, "demo": {"--c
 def text_of(name: str) -> bytes | None:
     """The bytes of a text of the current folder, if it can be read."""
     try:
-        return pathlib.Path(name).read_bytes()
-    except OSError:
+        return content_of(pathlib.Path(name))
+    except (OSError, Refused):
         return None
 
 

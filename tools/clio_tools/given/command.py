@@ -47,7 +47,7 @@ from clio_tools.given.values import Nulls, Texts, kind_of
 from clio_tools.mapping.meaning import read_mapping
 from clio_tools.mapping.text import Set, read_sets
 from clio_tools.program import Refused, run
-from clio_tools.safe_files import check_folder
+from clio_tools.safe_files import check_folder, content_of
 from clio_tools.sql_types import read_types
 
 CATALOG = "catalog"
@@ -78,7 +78,7 @@ def words_of(words: list[str]) -> argparse.Namespace:
 def target_of(path: str) -> list[Set]:
     """The sets of the target of a mapping."""
     try:
-        return read_sets(pathlib.Path(path).read_text(encoding="utf-8", errors="replace"))["target"]
+        return read_sets(content_of(pathlib.Path(path)).decode("utf-8", "replace"))["target"]
     except ValueError as error:
         raise Refused(f"{path}: {error}") from None
 
@@ -126,7 +126,7 @@ def work(words: list[str]) -> None:
     tables = tables_of(base, sets)
     pairs = linked(sets, tables)
     if given.identity:
-        given.surrogate += numbered(sets, tables, read_mapping(pathlib.Path(given.mapping).read_bytes()), pairs)
+        given.surrogate += numbered(sets, tables, read_mapping(content_of(pathlib.Path(given.mapping))), pairs)
     domains, null_is = Domains(sets, given.surrogate, pairs), NullIs(sets, given.null_is, given.null)
     places = [places_of(table, one) for table, one in zip(tables, sets)]
     texts = [Texts(pathlib.Path("out"), one, kinds) for one, kinds in zip(sets, kinds_of(given, sets, tables))]

@@ -46,6 +46,7 @@ from clio_tools.ids.numbering import check_whole, number
 from clio_tools.ids.target import is_renamed
 from clio_tools.mapping.text import Set, read_sets
 from clio_tools.program import Refused, harmless, remark, run
+from clio_tools.safe_files import content_of
 
 USAGE = "usage: clio-ids CROSSWALK [--number SET.COLUMN] [--keep SET.COLUMN] [--nested]; the manual is man clio-ids"
 
@@ -76,7 +77,7 @@ def words_of(words: list[str]) -> tuple[str, Chosen, bool]:
 def tables_of(chosen: Chosen) -> list[Set]:
     """The tables of the target; a column that was chosen must be there."""
     try:
-        tables = read_sets(pathlib.Path("mapping.clio").read_bytes().decode("utf-8", "replace"))["target"]
+        tables = read_sets(content_of(pathlib.Path("mapping.clio")).decode("utf-8", "replace"))["target"]
     except ValueError as error:
         raise Refused(f"mapping.clio: {error}") from None
     for name, column in chosen:

@@ -13,6 +13,7 @@ from clio_tools.ids.nulls import AGAIN
 from clio_tools.json import rows_in_parts
 from clio_tools.mapping.text import Mapping, Set
 from clio_tools.program import Refused, program
+from clio_tools.safe_files import content_of
 from clio_tools.sql.script import Script
 from clio_tools.sql.words import SQLITE
 
@@ -52,7 +53,7 @@ class Terms:
             self.script = Script()
             for line in lines:
                 self.script.add(line)
-            self.mapping = Mapping(pathlib.Path("mapping.clio").read_bytes().decode("utf-8", "replace"))
+            self.mapping = Mapping(content_of(pathlib.Path("mapping.clio")).decode("utf-8", "replace"))
             for name, function in FUNCTIONS.items():
                 self.base.create_function(name, 1, function, deterministic=True)
             for number, table in enumerate(self.mapping.source):

@@ -19,6 +19,7 @@ from clio_tools.ids.numbering import check_whole, prepared
 from clio_tools.ids.target import is_renamed
 from clio_tools.mapping.text import Mapping, Set
 from clio_tools.program import Refused, counted, harmless, program
+from clio_tools.safe_files import content_of
 from clio_tools.tables.command import read_summary
 
 AGAIN = "run clio exchange again"
@@ -28,7 +29,7 @@ OTHER_FILES = "rules.txt", "nulls.csv", "fold.csv"
 def mapping_here() -> Mapping:
     """The mapping of the folder."""
     try:
-        return Mapping(pathlib.Path("mapping.clio").read_bytes().decode("utf-8", "replace"))
+        return Mapping(content_of(pathlib.Path("mapping.clio")).decode("utf-8", "replace"))
     except ValueError as error:
         raise Refused(f"mapping.clio: {error}") from None
 

@@ -21,6 +21,7 @@ from clio_tools.explain.program import printed_rules
 from clio_tools.mapping.meaning import read_mapping
 from clio_tools.picture.whole import Picture
 from clio_tools.program import Refused, run
+from clio_tools.safe_files import content_of
 
 USAGE = "usage: clio-picture [FOLDER] > mapping.svg; the manual is man clio-picture"
 
@@ -30,7 +31,7 @@ def work(words: list[str]) -> None:
     if len(words) > 1 or words[:1] and words[0].startswith("-"):
         raise Refused(USAGE)
     path = pathlib.Path(words[0] if words else ".") / "mapping.clio"
-    content = path.read_bytes()
+    content = content_of(path)
     try:
         mapping = read_mapping(content)
     except Refused as why:

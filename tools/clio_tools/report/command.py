@@ -27,7 +27,7 @@ from clio_tools.program import Refused, run
 from clio_tools.report import sections
 from clio_tools.report.figures import Figures
 from clio_tools.report.page import whole
-from clio_tools.safe_files import check_folder
+from clio_tools.safe_files import check_folder, content_of
 
 USAGE = "usage: clio-report [FOLDER] > report.html; the manual is man clio-report"
 
@@ -50,7 +50,7 @@ def write_not_used(figures: Figures) -> dict[int, str]:
 
 def picture_of_mapping(name: str, shown: list[str]) -> str:
     """The picture, from the mapping as it is written; `shown` has the rules as clio prints them."""
-    content = pathlib.Path("mapping.clio").read_bytes()
+    content = content_of(pathlib.Path("mapping.clio"))
     return sections.picture(Picture(read_mapping(content), name, shown).drawn())
 
 

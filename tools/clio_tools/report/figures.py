@@ -14,6 +14,7 @@ from clio_tools.ids.target import is_renamed
 from clio_tools.mapping.rules import EXISTENTIAL, Rule
 from clio_tools.mapping.tables import Link, Table
 from clio_tools.program import Refused
+from clio_tools.safe_files import check_file
 
 Open = tuple[int, int]  # a rule, and a variable that it leaves open
 Fate = str | tuple[str, str]  # "stay", or by what a null was replaced, and by what kind of value
@@ -309,6 +310,7 @@ def why_other(table: Table) -> str:
 
 def read(path: pathlib.Path) -> bytes:
     """The bytes of a file; a missing one is refused."""
+    check_file(path)
     try:
         return path.read_bytes()
     except OSError as error:

@@ -102,6 +102,7 @@ import sys
 
 from ..mapping.places import Text
 from ..program import Refused, remark, run
+from ..safe_files import content_of
 from .comparing import what_lines_say
 from .data import as_data, faults_as_data
 from .model import Drawing
@@ -135,7 +136,7 @@ def work(words: list[str]) -> None:
     path = folder / "drawing.clio"
     if asked.propose and not path.exists():
         path = folder / "mapping.clio"
-    content = path.read_bytes()
+    content = content_of(path)
     try:
         if asked.propose:
             sys.stdout.write(proposed(read(content)))

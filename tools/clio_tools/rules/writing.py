@@ -3,7 +3,7 @@ import os
 import pathlib
 
 from ..program import Refused
-from ..safe_files import replaced
+from ..safe_files import content_of, replaced
 from .printed import Printed, is_as_printed, marked
 
 
@@ -32,7 +32,7 @@ def _look_at_mapping(path: pathlib.Path, name: str) -> None:
         raise Refused(f"{path} is a link, and clio-rules writes through none: take it away first")
     if not path.exists():
         return
-    printed = is_as_printed(path.read_bytes().decode("utf-8", "replace"))
+    printed = is_as_printed(content_of(path).decode("utf-8", "replace"))
     if printed is None:
         raise Refused(f"{path} wasn't printed by clio-rules: move it away first, or rename it to {name} if it is the "
                       f"drawing")

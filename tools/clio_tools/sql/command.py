@@ -39,6 +39,7 @@ import threading
 
 from clio_tools.mapping.text import Mapping
 from clio_tools.program import Refused, harmless, remark, run
+from clio_tools.safe_files import content_of
 from clio_tools.sql.determinations import Clash
 from clio_tools.sql.exchange import Exchange
 from clio_tools.sql.plan import Plan
@@ -145,7 +146,7 @@ def exchange(engine: Engine, core: bool, sessions: int = 1, report: Report = sil
 
 def mapping_here() -> Mapping:
     """The mapping of this folder."""
-    return Mapping(pathlib.Path("mapping.clio").read_bytes().decode("utf-8", "replace"))
+    return Mapping(content_of(pathlib.Path("mapping.clio")).decode("utf-8", "replace"))
 
 
 def work(given: list[str]) -> None:

@@ -42,6 +42,7 @@ from clio_tools.json import Found
 from clio_tools.json import rows as document_rows
 from clio_tools.mapping.text import Mapping, Set, in_order_of_links
 from clio_tools.program import Refused, counted, run
+from clio_tools.safe_files import MOST_DATA, content_of
 from clio_tools.sql_types import Column, Types
 from clio_tools.tables.bases import Base, Postgres, Sqlite, create, plain, quoted
 
@@ -143,7 +144,7 @@ def read_documents(tables: list[Set]) -> Found:
     for table in tables:
         if table.inner and not table.parent:
             path = pathlib.Path(table.name + ".json")
-            found = document_rows(path.read_bytes(), table, path)
+            found = document_rows(content_of(path, MOST_DATA), table, path)
             documents |= {one.name: list(without_zero(path, one, found.get(one.name, []))) for one in within(table)}
     return documents
 
@@ -197,7 +198,7 @@ def words_of(words: list[str]) -> argparse.Namespace:
 def lines_of(given: argparse.Namespace) -> Iterator[str]:
     """What is printed, line by line."""
     try:
-        mapping = Mapping(pathlib.Path(given.mapping).read_bytes().decode("utf-8", "replace"))
+        mapping = Mapping(content_of(pathlib.Path(given.mapping)).decode("utf-8", "replace"))
     except ValueError as error:
         raise Refused(f"{given.mapping}: {error}") from None
     if given.what == "source":

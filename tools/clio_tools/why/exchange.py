@@ -15,6 +15,7 @@ from clio_tools.explain.key_chase import cell_value
 from clio_tools.explain.program import mapping_of
 from clio_tools.mapping.rules import EXISTENTIAL, LITERAL, VARIABLE, Cell
 from clio_tools.program import Refused
+from clio_tools.safe_files import check_file
 from clio_tools.why.data import Match
 from clio_tools.why.lookup import Row
 from clio_tools.why.matches import RuleMatches
@@ -191,6 +192,7 @@ def rules_in(content: bytes) -> list[str]:
 
 def read_bytes(path: pathlib.Path) -> bytes:
     """The bytes of a file; a missing one is refused."""
+    check_file(path)
     try:
         return path.read_bytes()
     except FileNotFoundError:

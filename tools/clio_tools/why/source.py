@@ -13,6 +13,7 @@ from clio_tools.mapping.meaning import Mapping
 from clio_tools.mapping.meanings import TESTS
 from clio_tools.mapping.tables import Table
 from clio_tools.program import Refused
+from clio_tools.safe_files import check_file
 from clio_tools.why.data import SourceRow
 from clio_tools.why.lookup import Lookup, Row
 
@@ -116,6 +117,7 @@ class Source:
     def content(self, root: int) -> bytes:
         """The bytes of a root's file."""
         path = self.folder / file_of(self.tables[root])
+        check_file(path)
         try:
             return path.read_bytes()
         except OSError as error:
