@@ -9,7 +9,7 @@ use Rattle.clio_steps.specs.Outcomes.{wrote_all}
 use Rattle.clio_answer.specs.Answering.{MappingAndQuery, answer_stages, answered_plan, answers}
 use Rattle.clio_answer.specs.Outcomes.{IsAnsweredIn}
 
--- there are answers, or one reason to refuse them, up to which clash is told, and never both
+-- there are answers, or one reason to refuse them, up to which clash is reported, and never both
 abbrev pub AnswersOrRefusal : Type 0
 AnswersOrRefusal = (P : Program) → IsDecided AreAlike (λ u. Unit {0}) (answer_stages P)
 

@@ -23,19 +23,19 @@ use Rattle.clio_ending.specs.declared.ending.Refusal.TheVariants as refusals
 use Rattle.clio_ending.specs.declared.ending.Ending.{Ending}
 use Rattle.clio_ending.specs.declared.ending.Ending.TheVariants as endings
 
--- the refusal for a fault of the mapping text; want of memory refuses nothing
+-- the refusal for a fault of the mapping text; running out of memory refuses nothing
 abbrev pub mapping_refusal : AcceptFault → Option Refusal
 mapping_refusal (accept_faults.Mapping fault) = Some (refusals.Mapping fault)
 mapping_refusal (accept_faults.Limit limit) = Some (refusals.Limit limit)
 mapping_refusal accept_faults.Memory = None
 
--- the refusal for a fault of the second mapping's text; want of memory refuses nothing
+-- the refusal for a fault of the second mapping's text; running out of memory refuses nothing
 abbrev pub other_refusal : AcceptFault → Option Refusal
 other_refusal (accept_faults.Mapping fault) = Some (refusals.Other (other_faults.Mapping fault))
 other_refusal (accept_faults.Limit limit) = Some (refusals.Limit limit)
 other_refusal accept_faults.Memory = None
 
--- the refusal for a fault of a query's text; no such text is too deep, and want of memory refuses nothing
+-- the refusal for a fault of a query's text; no such text is too deep, and running out of memory refuses nothing
 abbrev pub query_refusal : TextFault → Option Refusal
 query_refusal (text_faults.At place kind) = Some (refusals.Query (query_faults.Text place kind))
 query_refusal (text_faults.TooDeep place) = None
@@ -62,7 +62,7 @@ named_clash target c =
     refusals.Clash c (table_name target c.table)
     (map (column_text target c.table) (left_columns target c.table c.key)) (column_text target c.table c.column)
 
--- the refusal for a fault of the exchange into this target; want of memory refuses nothing
+-- the refusal for a fault of the exchange into this target; running out of memory refuses nothing
 abbrev pub exchange_refusal : Forest → ExFault → Option Refusal
 exchange_refusal target (exchange_faults.Clash clash) = Some (named_clash target clash)
 exchange_refusal target (exchange_faults.Limit limit) = Some (refusals.Limit limit)

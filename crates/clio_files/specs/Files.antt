@@ -76,6 +76,6 @@ pub record FitsFiles (R : List Rule) (target : Forest) (e : Exchange) : Type 0 w
 
 -- ---- what the code has
 
--- what is told of a printed file
+-- a printed file as definitions see it: its name, its bytes and its count
 abbrev pub printed_view : Printed → PrintedFile
 printed_view p = record { name = p.file.name; bytes = p.file.bytes.items; count = p.count }

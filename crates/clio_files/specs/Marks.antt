@@ -11,7 +11,7 @@ use Rattle.dx_instance.specs.Numbers.{value_of}
 abbrev pub IsNull : Value → Type 0
 IsNull v = (n : NullId) × (v ≡ Null n)
 
--- the numbers that stand in tables
+-- the numbers that are in tables
 abbrev pub table_numbers : List NumberTable → List ℕ
 table_numbers ts = flat_map (λ (t : NumberTable). concat t.rows) ts
 

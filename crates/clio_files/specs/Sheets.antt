@@ -16,7 +16,7 @@ use Rattle.dx_instance.specs.ValueText.{const_text, null_text, value_text_of}
 use Rattle.dx_csv.specs.Print.{records_text}
 use Rattle.dx_tgd.specs.Placed.{NamesPlace}
 
--- a file as it is told of: its name, its bytes and its count
+-- a file as it is reported: its name, its bytes and its count
 pub record PrintedFile : Type 0 where
   pub name : Text
   pub bytes : List ℕ

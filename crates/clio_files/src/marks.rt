@@ -58,7 +58,7 @@ fn mark_table(target: &Numbers, table: u32, first: u32, marks: &mut Vec<bool>)
     }
 }
 
-// A mark for each number from `first` on: whether it stands in a table. If there are none, no table is read.
+// A mark for each number from `first` on: whether it is in a table. If there are none, no table is read.
 fn marks_of(alloc: Global, target: &Numbers, first: u32) -> Result<Vec<bool>, AllocError>
     requires { first ≤ length target.now.symbols }
     ensures many { IfOk result (λ marks. first + length marks.items ≡ length target.now.symbols) }

@@ -5,7 +5,7 @@ ghost use Rattle.clio_files.specs.Files.{printed_view};
 use dx_base::{File, Text};
 use std::alloc::{AllocError, Global};
 
-/// A file, and how many things stand in it, as its kind counts them: rules, steps of a script, the records under a header, or
+/// A file, and how many things are in it, as its kind counts them: rules, steps of a script, the records under a header, or
 /// the objects of a document.
 #[derive(Drop)]
 pub struct Printed {

@@ -64,7 +64,7 @@ judged p =
       limit = target_cells;
     }
 
--- the refusal if there is no verdict; want of memory refuses nothing
+-- the refusal if there is no verdict; running out of memory refuses nothing
 abbrev pub judge_refusal : JudgeFault → Option Refusal
 judge_refusal (judge_faults.Limit limit) = Some (refusals.Limit limit)
 judge_refusal judge_faults.Memory = None

@@ -58,7 +58,7 @@ SaidRulesAreWritable =
     → IsOffer list → r ∈ m.rules → rule_fault m.source m.target list r ≡ None
     → IsWritable list (rule_of_text m.source m.target list r)
 
--- and so it is of each rule that the lines of a mapping text stand for
+-- and so it is of each rule that the lines of a mapping text mean
 abbrev pub LineRulesAreWritable : Type 0
 LineRulesAreWritable =
     (text : Text) (m : MappingText) (list : List Conversion) → IsMappingText text m → IsOffer list

@@ -32,7 +32,7 @@ pub record IsReadAs (source target : Forest) (list : List Conversion) (d : Rule)
   pub no_fault : rule_fault source target list said ≡ None
   pub same : rule_of_text source target list said ≡ d
 
--- a text that can stand in a string: UTF-8 without a byte below 32
+-- a text that can be in a string: UTF-8 without a byte below 32
 abbrev pub IsStringText : Text → Type 0
 IsStringText text = IsUtf8 text × Each text (λ b. 32 ≤ b)
 
@@ -40,7 +40,7 @@ IsStringText text = IsUtf8 text × Each text (λ b. 32 ≤ b)
 abbrev pub IsNamedByWord : Forest → Atom → Type 0
 IsNamedByWord schema a = IsWord (table_name schema a.table)
 
--- each literal of an atom can stand in a string
+-- each literal of an atom can be in a string
 abbrev pub HasStringTexts : Atom → Type 0
 HasStringTexts a = (text : Text) → Lit text ∈ a.cells → IsStringText text
 
@@ -49,7 +49,7 @@ pub record HasNamedTables (source target : Forest) (d : Rule) : Type 0 where
   pub premise : Each d.premise (IsNamedByWord source)
   pub conclusion : Each d.conclusion (IsNamedByWord target)
 
--- the name of each conversion of a rule is a word, and each literal can stand in a string
+-- the name of each conversion of a rule is a word, and each literal can be in a string
 pub record IsWritable (list : List Conversion) (d : Rule) : Type 0 where
   pub conversions : Each d.derived (λ e. IsWord (conversion_name list e.code))
   pub literals : Each d.conclusion HasStringTexts

@@ -16,7 +16,7 @@ use Rattle.clio_steps.specs.Steps.{Program, exchanges, mapping_stages, rows_stag
 use Rattle.clio_steps.specs.Outcomes.{AcceptedIn, ExchangedIn, HasNoSolutionIn}
 use Rattle.clio_steps.specs.Outcomes.{HasSolutionIn, HeldIn, MatchedIn, ReadIn}
 
--- there is an exchange, or one reason to refuse it, up to which clash is told, and never both
+-- there is an exchange, or one reason to refuse it, up to which clash is reported, and never both
 abbrev pub ExchangeOrRefusal : Type 0
 ExchangeOrRefusal = (P : Program) (mode : Mode) → IsDecided AreAlike (λ u. Unit {0}) (exchanges P mode)
 

@@ -96,7 +96,7 @@ abbrev pub exchange_input : Mode → MappingAndRows → ExchangeInput
 exchange_input mode p =
     record { rules = p.0.rules; schema = model_tables p.0.target; rows = facts p.1; mode = mode; limit = target_cells }
 
--- the exchange of the rows; a clash is told with the names that the target has
+-- the exchange of the rows; a clash is reported with the names that the target has
 abbrev pub named_stage : Conversions → Mode → MappingAndRows → Stage Refusal MappingAndRows Exchange
 named_stage apply mode p = over (exchange_input mode) (saying_if (exchange_refusal p.0.target) (exchanging apply))
 

@@ -1,4 +1,4 @@
--- What a run answers if nothing outside fails: what is asked for, as far as there is such a thing, or want of memory.
+-- What a run answers if nothing outside fails: what is asked for, as far as there is such a thing, or out of memory.
 use Rattle.std.specs.Prelude.{◌≡◌, ◌⊎◌, ℕ, List, [], ◌∷◌, codes, Some, Bool}
 use Rattle.std.specs.FinMap.{from_entries, get}
 use Rattle.dx_base.specs.Entries.{Entry, FileMap}
@@ -84,7 +84,7 @@ NoAnswerIsAClash =
 
 -- ---- the answers
 
--- this, or want of memory
+-- this, or out of memory
 abbrev pub OrMemory : Ending → Type 0 → Type 0
 OrMemory r A = A ⊎ (r ≡ endings.Memory)
 

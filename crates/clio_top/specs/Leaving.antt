@@ -18,7 +18,7 @@ WroteFirstAsked P c words count before after = (d : Done) × AsAsked P c words d
 abbrev pub WroteLessAsked : Program → World → List Word → ℕ → OutputState → OutputState → Type 0
 WroteLessAsked P c words count before after = (d : Done) × AsAsked P c words d (wrote_less count before after)
 
--- An ending with `WriteFault` tells how many files were put, the first ones; with `Memory` nothing was written, or
+-- An ending with `WriteFault` says how many files were put, the first ones; with `Memory` nothing was written, or
 -- the same, and not all of the text; with each other one that is not `Done` nothing. What is left after `Done` says
 -- the field `done` of specs/Right.
 abbrev pub Leaves : Program → World → List Word → OutputState → OutputState → Ending → Type 0

@@ -45,7 +45,7 @@ use Rattle.clio_top.specs.Demo.{demo_world}
 use Rattle.clio_top.specs.Commands.{run_stages}
 use Rattle.clio_top.specs.Outcomes.{IsDemoIn, IsShownIn, WrittenIn}
 
--- there is one reason to refuse a run, up to which clash is told, or a plan, and never both
+-- there is one reason to refuse a run, up to which clash is reported, or a plan, and never both
 abbrev pub RefusedOrPlanned : Type 0
 RefusedOrPlanned = (P : Program) → IsDecided AreAlike (λ words. Unit {0}) (run_stages P)
 
@@ -86,7 +86,7 @@ AsAsked P c words (Answered a) Wrote = IsAnswered P c words a Wrote
 AsAsked P c words (Judged v) Wrote = IsJudged P c words v Wrote
 AsAsked P c words (Compared k) Wrote = IsCompared P c words k Wrote
 
--- what is done is as the words ask for it, whether or not the inputs tell what they hold
+-- what is done is as the words ask for it, whether or not the inputs show what they hold
 abbrev pub DoneIsAsAsked : Type 0
 DoneIsAsAsked =
     (P : Program) (c : World) (words : List Word) (before after : OutputState) (d : Done)
@@ -104,7 +104,7 @@ IsClashOf P c words k table key column =
     ⊎ ((says words ≡ Some Answering) × IsClashIn P Plain c k table key column))
 
 -- a clash is that of an accepted mapping text and the source of some files, or of a demo's files, in the mode that
--- the words say, whether or not the inputs tell what they hold
+-- the words say, whether or not the inputs show what they hold
 abbrev pub ClashesAreOfTexts : Type 0
 ClashesAreOfTexts =
     (P : Program) (c : World) (words : List Word) (before after : OutputState) (k : Clash)
@@ -159,7 +159,7 @@ UsageIsOfWords =
     (P : Program) (c : World) (words : List Word)
     → (run_stages P).refuses c words refusals.Usage ↔ (says words ≡ None)
 
--- want of memory is no reason to refuse a text, nor an exchange
+-- running out of memory is no reason to refuse a text, nor an exchange
 abbrev pub MemoryIsNoReason : Type 0
 MemoryIsNoReason =
     (P : Program) (c : World) (text : List ℕ) (a : ExchangeInput)
@@ -175,7 +175,7 @@ ReasonsHaveWords =
     × HasWords (exchange_refusal target) (exchanging P.apply)
     × HasWords judge_refusal (judging P.apply)
 
--- no two files that an exchange writes have one name: each stands as it was put
+-- no two files that an exchange writes have one name: each is as it was put
 abbrev pub FilesHaveOwnNames : Type 0
 FilesHaveOwnNames =
     (P : Program) (mode : Mode) (nested : Bool) (c : World) (e : Exchange) (before after : OutputState)

@@ -33,8 +33,8 @@ pub record IsRightIn (P : Program) (c : World) (words : List Word) (r : Ending) 
   pub complete : ¬ (Rose old.faults new.faults) → ¬ (Rose writes writes') → Completes P c words r
   pub complete_demo : ¬ (Rose writes writes') → CompletesDemo P words r
 
--- The stages of the words gave this ending (`Runs`); and it is right in each world in which all is so that the reads
--- answered since `old`. There is such a world, and it is what the inputs hold if they tell.
+-- The stages of the words gave this ending (`Runs`); and it is right in each world in which all that the reads
+-- answered since `old` is so. There is such a world, and it is what the inputs hold, if they show it.
 abbrev pub IsRight : Program → List Word → Ending → InputState → InputState → OutputState → OutputState → ℕ → ℕ
     → Type 0
 IsRight P words r old new before after writes writes' =

@@ -77,7 +77,7 @@ abbrev pub without_options : Command → List Word → Option Command
 without_options c [] = Some c
 without_options c (w ∷ words) = None
 
--- what words say: a command, by its name and what stands after it
+-- what words say: a command, by its name and what comes after it
 abbrev pub says : List Word → Option Command
 says [] = None
 says (name ∷ words) =

@@ -12,7 +12,7 @@ pub fn refused_or_planned()
     ensures { RefusedOrPlanned }
 {}
 
-/// What a run has done is what its words ask for, of the texts and files of some world, whether or not the inputs tell what they hold:
+/// What a run has done is what its words ask for, of the texts and files of some world, whether or not the inputs show what they hold:
 /// an exchange is that of the mapping text and then, if that is accepted, of the source files in order; what is shown is of the
 /// mapping text alone; a demo is of its own files. And it asks for these files alone.
 pub fn over_anything()
@@ -62,8 +62,8 @@ pub fn a_clash_is_told()
     ensures this { ClashIsThis }
 {}
 
-/// A run is refused with `Usage` exactly if its words say no command. Want of memory is no reason to refuse, and each reason has its word
-/// among the refusals.
+/// A run is refused with `Usage` exactly if its words say no command. Running out of memory is no reason to refuse, and
+/// each reason has its word among the refusals.
 pub fn usage_is_of_words()
     ensures usage { UsageIsOfWords }
     ensures memory { MemoryIsNoReason }

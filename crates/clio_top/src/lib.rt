@@ -3,7 +3,7 @@
 //! `run` does what the words say: it exchanges data under a mapping, shows the mapping's rules and their script, exchanges
 //! the files of a demo, answers a query, judges a given target, or compares two mappings. The last three are crates of
 //! their own (`clio_answer`, `clio_judge`, `clio_compare`); what all of them share is `clio_steps`. The contract of `run` is
-//! one record (specs/Right, `IsRight`): in each world in which all is so that the reads answered, what each thing that is
+//! one record (specs/Right, `IsRight`): in each world in which all that the reads answered is so, what each thing that is
 //! done comes to, and a clash (specs/Promises, over the Outcomes of each command), what a run leaves that is not done
 //! (specs/Leaving), and what comes if nothing outside fails (specs/Completing). A run is one row of stages (specs/Commands,
 //! `run_stages`; dx_stages, specs/Ending, `Runs`). `files` makes the files of an exchange alone (specs/FilesOf). Endings

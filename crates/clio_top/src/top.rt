@@ -80,8 +80,8 @@ where
 /// says the verdict; `compare` also reads `other.clio`, says whether the rules of each imply those of the other, and
 /// puts two instances for a direction that is not so. Everything is computed before the first file is put.
 ///
-/// A world is a look-up from names to bytes. There is one in which all is so that the reads of this run have
-/// answered, and which is what the inputs hold if they tell; and in each such world all that is promised is so
+/// A world is a look-up from names to bytes. There is one in which all that the reads of this run have answered
+/// is so, and which is what the inputs hold, if they show it; and in each such world all that is promised is so
 /// (specs/Right): what is done is as the words ask for it, after `Clash` there is no solution, what is left after any
 /// ending, and that what can be done is done, if no call outside failed and memory suffices. In general the stages of
 /// the words (`run_stages`) give this ending there, and what was written is what they allow.
