@@ -29,7 +29,7 @@ use Rattle.clio_accept.specs.Mapping.{NoneReserved, AreRulesOf, written_of, limi
 
 -- ---- rules
 
--- lines, conditions and hand-written rules, and the two schemas that they stand between
+-- lines, conditions and hand-written rules, and the two schemas that they are between
 pub record TextsBetween : Type 0 where
   pub source : Forest
   pub target : Forest
@@ -42,7 +42,7 @@ abbrev pub texts_between : Forest → Forest → List LineText → List OnlyText
 texts_between source target lines conditions by_hand =
     record { source = source; target = target; lines = lines; conditions = conditions; by_hand = by_hand }
 
--- They stand between two schemas without a fault, and each hand-written rule is whole and has few cells.
+-- They are between two schemas without a fault, and each hand-written rule is whole and has few cells.
 pub record IsBetweenSchemas (b : TextsBetween) : Type 0 where
   pub source : IsFaultless b.source
   pub target : IsFaultless b.target
@@ -77,7 +77,7 @@ limits list =
     checking (λ b. LimitRefused list b.source b.target b.lines)
     (λ b. limit_of list b.source b.target b.lines ≡ None)
 
--- the rules that the lines stand for, and the closed hand-written rules, none of which is too wide
+-- the rules that the lines mean, and the closed hand-written rules, none of which is too wide
 abbrev pub closing : List Conversion → Stage AcceptFault TextsBetween (List Rule)
 closing list =
     notions (λ b. WidthRefused (model_tables b.target) (written_of list b.source b.target b.by_hand))

@@ -82,7 +82,7 @@ target_refusal schema_faults.Memory = faults.Memory
 
 -- ---- the rules of lines
 
--- what lines between two schemas stand for: the rules of their kept candidates, in order
+-- what lines between two schemas mean: the rules of their kept candidates, in order
 abbrev pub rules_of_lines : List Conversion → Forest → Forest → List LineText → List Rule
 rules_of_lines list source target lines =
     kept_rules (lines_of source target list lines) (model_tables source) (model_tables target)

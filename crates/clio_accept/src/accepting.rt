@@ -105,8 +105,8 @@ where
     mapping_between(alloc, between, host, tests)
 }
 
-/// The mapping that a text defines: its two schemas, its conditions, and what pruning leaves of the rules that its lines stand
-/// for and its closed hand-written rules.
+/// The mapping that a text defines: its two schemas, its conditions, and what pruning leaves of the rules that its lines mean
+/// and of its closed hand-written rules.
 ///
 /// # Errors
 ///

@@ -102,7 +102,7 @@ fn pruned(
     Ok(Items::from_vec(left))
 }
 
-/// Two schemas, and the texts of what stands between them.
+/// Two schemas, and the texts of what is between them.
 #[derive(Drop)]
 pub(crate) struct SchemaTexts<'a> {
     pub source: Schema,
@@ -112,7 +112,7 @@ pub(crate) struct SchemaTexts<'a> {
     pub by_hand: &'a [RuleText],
 }
 
-/// The mapping between two schemas: the conditions, and what pruning leaves of the rules that the lines stand for and of the
+/// The mapping between two schemas: the conditions, and what pruning leaves of the rules that the lines mean and of the
 /// closed hand-written rules after them.
 pub(crate) fn mapping_between<F, P, M>(
     alloc: Global,

@@ -35,7 +35,7 @@ fn part_path<R: AllocGlobal + Clock>(rt: &R, process: u32) -> io::Result<String>
     Ok(path)
 }
 
-// Hands all bytes to a new file, and from there to the disk: an error that the system would tell at the close shows
+// Hands all bytes to a new file, and from there to the disk: an error that the system would report at the close shows
 // here.
 fn fill<F: Write + OpenFile + Drop>(file: F, bytes: &[u8]) -> io::Result<WriteLog>
     ensures { IfOk result (λ log. log.written.said ≡ bytes.now) }
@@ -97,7 +97,7 @@ pub fn publish<R: Files + AllocGlobal>(
 }
 
 // Whether a file of this name is the part of a run that has ended: its process is this one, which has begun none, or is
-// gone. Where the processes can't be seen, each is taken for gone; a run whose part is taken away fails at the move,
+// gone. If the processes can't be seen, each is taken for gone; a run whose part is taken away fails at the move,
 // and nothing is mixed.
 fn is_left_over<R: Files + AllocGlobal>(rt: &R, process: u32, name: &str) -> io::Result<bool> {
     let Some(rest) = name.strip_prefix(".clio-") else {

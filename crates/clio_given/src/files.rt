@@ -71,7 +71,7 @@ fn read_files<I: Inputs>(
 /// # Errors
 ///
 /// For each table in order: its file is absent, passes what is left of so many bytes, is no table of its columns, has a record with a
-/// field that is no value's text, or its rows pass what is left of 1,000,000 cells. A read that failed, and want of memory, may come at
+/// field that is no value's text, or its rows pass what is left of 1,000,000 cells. A read that failed, and out of memory, may come at
 /// any file.
 pub fn read_given<I: Inputs>(
     alloc: Global,

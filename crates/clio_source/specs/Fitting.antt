@@ -38,7 +38,7 @@ pub record Holds (used : Marks) (r : Reading) (q : ReadState) : Type 0 where
   pub bytes : r.bytes_left ≡ q.bytes_left
   pub cells : r.cells_left ≡ q.cells_left
 
--- nothing stands in the columns of flat roots that are not used
+-- nothing is in the columns of flat roots that are not used
 abbrev pub UnusedAreBlank : Marks → Forest → Reading → Type 0
 UnusedAreBlank used f r = AreBlank used f (facts (shown_tables r.symbols r.tables.items))
 

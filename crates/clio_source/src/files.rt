@@ -98,7 +98,7 @@ fn read_files<I: Inputs>(
 }
 
 /// The source that the files of a schema's roots hold: of a root without inner sets a table, of another a document. Of all their
-/// rows those stay that pass each condition on their table, as the row tests decide. Beside it stands how many bytes are left: so
+/// rows those stay that pass each condition on their table, as the row tests decide. Beside it is how many bytes are left: so
 /// many may files have that are read after these.
 ///
 /// The marks say for each table which of its columns are used; a column without a mark is, and so is each that a condition
@@ -109,7 +109,7 @@ fn read_files<I: Inputs>(
 ///
 /// For each root in order: its file is absent, passes what is left of 67,108,864 bytes, is no table of its columns or no
 /// document of its sets, or its facts pass what is left of 4,000,000 cells, whether or not they pass the conditions. A read that
-/// failed, and want of memory, may come at any file.
+/// failed, and out of memory, may come at any file.
 pub fn read_source<I: Inputs, P, M>(
     alloc: Global,
     inputs: &mut I,

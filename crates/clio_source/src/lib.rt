@@ -7,8 +7,8 @@
 //! that pass the caller's conditions (`passing` of dx_used); its row tests decide what passes. Rows of an instance ascend, so there
 //! is one instance of the files. The caller says which columns are used, those that conditions name among them: of a
 //! table's other columns nothing is kept, and what is read agrees with the instance of the files on the used ones (specs/Agreeing).
-//! Beside the instance stands how many bytes are left for files that are read after these. What the code has of what was read stands
-//! in specs/Fitting.
+//! Beside the instance it gives how many bytes are left for files that are read after these. What the code has of what was read
+//! is in specs/Fitting.
 #![tactic(auto)]
 
 mod documents;

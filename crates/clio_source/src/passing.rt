@@ -11,7 +11,7 @@ use dx_instance::{Instance, Numbers, Rows, Value};
 use dx_lines::Condition;
 use std::alloc::{AllocError, Global};
 
-// Whether what stands in the column of a condition passes its test.
+// Whether what is in the column of a condition passes its test.
 fn column_passes<P, M>(
     numbers: &Numbers<'_>,
     row: &[u32],

@@ -1,4 +1,4 @@
-// Public calls one by one, where there is memory enough.
+// Public calls one by one, with memory enough.
 ghost use Rattle.std.specs.Prelude.{◌≡◌, IfOk, length, map};
 ghost use Rattle.dx_base.specs.Members.{◌∈◌};
 ghost use Rattle.dx_funcs.specs.Offers.{IsListed};

@@ -42,7 +42,7 @@ fn files(alloc: Global) -> Result<Vec<File>, AllocError> {
     Ok(files)
 }
 
-/// The status and the message of a command of one word on these files, where these calls of the inputs fail.
+/// The status and the message of a command of one word on these files, if these calls of the inputs fail.
 fn told_of<F, P, M>(
     alloc: Global,
     word: &str,
@@ -132,7 +132,7 @@ fn left(alloc: Global, outputs: &MemOutputs) -> Result<Vec<u8>, AllocError> {
     Ok(all)
 }
 
-/// Whether a run of `exchange` ended and left what is wanted in the outputs, where these calls of the inputs fail.
+/// Whether a run of `exchange` ended and left what is wanted in the outputs, if these calls of the inputs fail.
 fn ends_so(
     alloc: Global,
     reads: Vec<u64>,
@@ -150,7 +150,7 @@ fn ends_so(
     )
 }
 
-/// Whether the read with this number, failing, leaves nothing and is told so.
+/// Whether the read with this number, failing, leaves nothing and is reported.
 fn read_fails(alloc: Global, number: u64, text: &str) -> Result<bool, AllocError> {
     let reads = vec![in alloc; number]?;
     let outputs = MemOutputs::new(alloc, Vec::new(alloc));
@@ -210,7 +210,7 @@ fn each_write_can_fail(rt: HostRuntime) -> Result<(), Fail> {
     Ok(())
 }
 
-/// Whether a run whose summary is cut after seven bytes is told so, and leaves all files and these bytes.
+/// Whether a run whose summary is cut after seven bytes is reported, and leaves all files and these bytes.
 fn leaves_a_part(alloc: Global) -> Result<bool, AllocError> {
     let mut files = first_files(alloc, 5)?;
     files.push_str("rules.t")?;
@@ -231,7 +231,7 @@ fn a_part_of_the_summary_can_be_said(rt: HostRuntime) -> Result<(), Fail> {
     Ok(())
 }
 
-/// Whether a run of `show` whose saying fails is told so, and leaves nothing.
+/// Whether a run of `show` whose saying fails is reported, and leaves nothing.
 fn saying_fails(alloc: Global) -> Result<bool, AllocError> {
     let outputs = MemOutputs::new(alloc, vec![in alloc; 0]?);
     let outcome = outcome_of(alloc, "show", Vec::new(alloc), outputs)?;
