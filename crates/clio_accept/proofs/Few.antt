@@ -24,7 +24,7 @@ use Rattle.dx_logical.specs.Laws.{IsUnfolding, unfolding_variables}
 use Rattle.dx_logical.specs.Unfolding.{variants_of}
 use Rattle.dx_lines.specs.declared.line.Line.{Line}
 use Rattle.dx_lines.specs.Limits.{first_or, count_upto, is_wide, passed_at, passed_by, passed_limit}
-use Rattle.dx_candidates.proofs.Lists.{in_upto}
+use Rattle.dx_candidates.proofs.UpTo.{in_upto}
 use Rattle.dx_rules.proofs.ClosedRules.{occurrences_fit}
 
 -- where the first of these is none, each is
