@@ -15,6 +15,7 @@ from clio_tools.sql.work import Made, Row, Whole
 
 Answer = TypeVar("Answer")
 LOCK = 0x636C696F  # the number of the lock that a run holds in its database
+UNLOCK = "SELECT pg_advisory_unlock_all()"  # as a server ends a session only after its client has gone on
 WORK = "work tables of a run of clio-sql; they can be dropped when it has ended"
 MADE = "made by clio-sql"
 # no nested loops: with LIMIT 1, or before there are statistics, they are planned for millions of rows
@@ -222,6 +223,7 @@ class Postgres(Whole):
         if self.sessions and not self.is_one_snapshot:
             self.sessions[0].attempt(f"DROP SCHEMA IF EXISTS {self.schema}, {self.made_in} CASCADE")
         for session in self.sessions:
+            session.attempt(UNLOCK)
             session.close()
 
 

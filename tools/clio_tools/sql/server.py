@@ -6,7 +6,7 @@ from clio_tools.databases import postgres
 from clio_tools.databases.postgres import literal
 from clio_tools.program import Refused
 from clio_tools.sql.moving import Member
-from clio_tools.sql.postgres import LEFT, LOCK, OF_PARTS, SETTINGS, WORK
+from clio_tools.sql.postgres import LEFT, LOCK, OF_PARTS, SETTINGS, UNLOCK, WORK
 from clio_tools.sql.session import Log, Session
 from clio_tools.sql.work import Row
 
@@ -96,6 +96,7 @@ class Server:
         """Ends the sessions; drops what was worked on, and parts of a target; answers whether the parts are dropped."""
         self.session.attempt(f"DROP SCHEMA IF EXISTS {self.schema('work')} CASCADE")
         dropped = [self.session.attempt(f'DROP TABLE IF EXISTS {self.schema("target")}."{part}"') for part in parts]
+        self.session.attempt(UNLOCK)
         self.session.close()
         return all(dropped)
 

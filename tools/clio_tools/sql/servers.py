@@ -16,7 +16,7 @@ from clio_tools.mapping.text import Set
 from clio_tools.program import Refused
 from clio_tools.sql.gathering import Gathering
 from clio_tools.sql.moving import Goes, Member, Moving, by_hash, by_number
-from clio_tools.sql.postgres import WORK, Postgres
+from clio_tools.sql.postgres import UNLOCK, WORK, Postgres
 from clio_tools.sql.script import Null
 from clio_tools.sql.server import READS, Server, reached
 from clio_tools.sql.session import Log, Session, at_once, unlogged
@@ -280,6 +280,7 @@ class Servers(Postgres):
         for session in self.sessions:
             for schema in schemas:
                 session.attempt(f"DROP SCHEMA IF EXISTS {schema} CASCADE")
+            session.attempt(UNLOCK)
             session.close()
 
 
