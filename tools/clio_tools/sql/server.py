@@ -102,7 +102,7 @@ class Server:
 
     def is_known_as(self, found: Sequence[Row]) -> bool:
         """Whether the options of the server as it is known where it is asked lead here."""
-        return leading(dict(found)) == leading(self.place.words)
+        return leading({str(option): str(value) for option, value in found}) == leading(self.place.words)
 
     def made_known(self) -> Iterator[str]:
         """What makes the server known to the one that is asked; the last has the password."""
