@@ -617,6 +617,16 @@ class OnPostgres(Common):
         numbers = sorted(int(number or 0) for number in self.base.numbers()["town"].values())
         self.assertEqual(int(self.base.numbers()["town"]["Graz AT"] or 0), numbers[-1])
 
+    def test_identity_past_the_sequence(self) -> None:
+        """A number that somebody wrote into a row, and that the sequence has not given yet, is no new thing's."""
+        self.base.run("INSERT INTO country VALUES ('AT'); INSERT INTO town (tid, name, iso) OVERRIDING SYSTEM VALUE "
+                      "VALUES (2, 'Graz', 'AT')")
+        self.source(FIRST)
+        self.load("--identity")
+        self.assertEqual(self.base.numbers()["town"].pop("Graz AT"), "2")
+        self.assertEqual(len(self.base.numbers()["town"]), 4)
+        self.assertEqual(self.dry("--identity", "--others")[0], 0)
+
     def test_silent(self) -> None:
         """What a type would alter without a word is listed too."""
         self.source(changed(FIRST, offer=[["a-1", "Tea", "2.505", "drink"]],

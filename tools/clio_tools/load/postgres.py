@@ -209,6 +209,7 @@ class Postgres(Database):
 
     def next_value(self, plan: TablePlan, column: Column, least: str, is_dry: bool) -> str:
         if column.sequence is not None and not is_dry:
+            self.set_sequence(plan, column, least)  # it may be behind rows that were written with numbers
             return f"pg_catalog.nextval({literal(column.sequence)})"
         parts = [f"coalesce({least}, 0)", f"coalesce((SELECT max({identifier(column.name)}) FROM {plan.table.sql}), 0)"]
         if column.sequence is not None:
@@ -314,12 +315,16 @@ class Postgres(Database):
 
     def set_sequences(self, plan: TablePlan) -> None:
         for column in plan.loaded:
-            if column.sequence is None:
-                continue
-            greatest = self.count(f"SELECT max({identifier(column.name)}) FROM {plan.table.sql}")
-            last = self.count(f"SELECT last_value - CASE WHEN is_called THEN 0 ELSE 1 END FROM {column.sequence}")
-            if greatest > last:
-                self.value(f"SELECT pg_catalog.setval({literal(column.sequence)}, {greatest})")
+            self.set_sequence(plan, column)
+
+    def set_sequence(self, plan: TablePlan, column: Column, least: str = "NULL") -> None:
+        """Sets what numbers a column behind the greatest number in it, and behind another one."""
+        if column.sequence is None:
+            return
+        greatest = self.count(f"SELECT greatest((SELECT max({identifier(column.name)}) FROM {plan.table.sql}), {least})")
+        last = self.count(f"SELECT last_value - CASE WHEN is_called THEN 0 ELSE 1 END FROM {column.sequence}")
+        if greatest > last:
+            self.value(f"SELECT pg_catalog.setval({literal(column.sequence)}, {greatest})")
 
     def close(self) -> None:
         self.session.close()
