@@ -327,6 +327,29 @@ class Nulls(Draft):
         self.refused("clio-draft", "sqlite", "old.db", "--null", "x", why="--null needs --data")
 
 
+class Drawn(Draft):
+    """A week later: the source's files anew, for a mapping that clio-rules printed."""
+
+    def test_sets_for_tests(self) -> None:
+        """Their files are those of clio-rules, and stay; a set that is no table is refused as ever."""
+        table = "CREATE TABLE t (id INTEGER PRIMARY KEY, kind TEXT, mail TEXT); INSERT INTO t VALUES (1, 'F', 'm')"
+        self.base(table)
+        side = self.printed("clio-draft", "sqlite", "old.db", "--data", ".")
+        drawing = (f"mapping 2;\n{side}target {{ set u {{ id, a, b; key (id); key (b); }} }}\nrows u from t;\n"
+                   'line t.id -> u.id;\nline t.kind -> u.a where kind = "F";\nline t.mail -> u.b where mail filled;\n')
+        self.file("drawing.clio", drawing)
+        self.printed("clio-rules", "--write")
+        self.base(table + ", (2, 'G', '')")
+        self.printed("clio-draft", "sqlite", "old.db", "--data", ".", "--mapping", "mapping.clio")
+        self.assertEqual((self.folder / "is_F.csv").read_text(), 'text\n"F"\n')
+        self.assertEqual(os.readlink(self.folder / "t_mail_filled.csv"), "t.csv")
+        self.assertEqual(self.clio("exchange")[0], 0)
+        self.assertEqual((self.folder / "out/u.csv").read_text().count("\n"), 3)
+        self.file("mapping.clio", "\n" + (self.folder / "mapping.clio").read_text())  # as nothing printed it
+        self.refused("clio-draft", "sqlite", "old.db", "--data", ".", "--mapping", "mapping.clio",
+                     why="the mapping has a set is_F, and nothing here becomes it")
+
+
 class Shop(Draft):
     def test_whole_migration(self) -> None:
         shop = TOP / "examples/shop"

@@ -65,6 +65,7 @@ from clio_tools.draft.text import side_text
 from clio_tools.draft.texts import Texts
 from clio_tools.mapping.text import Set, read_sets
 from clio_tools.program import Refused, remark, run
+from clio_tools.rules.printed import sets_for_tests
 from clio_tools.safe_files import content_of
 
 TableBase = sqlite.Base | postgres.Base | delimited.Base
@@ -126,13 +127,15 @@ def wanted_sets(base: Base, side: Side, mapping: str | None) -> list[Wanted]:
     if mapping is None:
         return [(table, [column.word for column in table.said], None) for table in side.said]
     try:
-        sets = read_sets(content_of(pathlib.Path(mapping)).decode("utf-8", "replace"))["source"]
+        text = content_of(pathlib.Path(mapping)).decode("utf-8", "replace")
+        sets = read_sets(text)["source"]
     except ValueError as error:
         raise Refused(f"{mapping}: {error}") from None
     hint = "; a set has the name of its file" if isinstance(base, (delimited.Base, document.Base)) else ""
+    of_drawing = sets_for_tests(text) - {table.word for table in side.said}  # clio-rules writes their files
     wanted: list[Wanted] = []
     for one in sets:
-        if one.parent is None:
+        if one.parent is None and one.name not in of_drawing:
             table = find_set(side, one.name, hint)
             there = [column.word for column in table.said]
             missing = [column for column in one.declared if column not in there]

@@ -1,5 +1,6 @@
 """The mapping text that a drawing means: its own schemas, the sets that tests and lookups take, and rules."""
 import hashlib
+import re
 from typing import Iterator, NamedTuple, Optional, Sequence
 
 from ..mapping import tree
@@ -13,6 +14,8 @@ from .remarks import Comments
 from .saying import said
 from .spelling import Spelling, with_all_cells
 from .variants import refs_past_limit
+
+FOR_TESTS = re.compile(r"^  set (\w+) \{ .* \}  // \1\.csv (?:holds the one text \"|is \w+\.csv$)", re.MULTILINE)
 
 
 class Origin(NamedTuple):
@@ -162,3 +165,8 @@ def is_as_printed(content: str) -> Optional[bool]:
     if not first.startswith("// Printed by clio-rules from "):
         return None
     return first.endswith(f" Sum {sum_of(rest)}")
+
+
+def sets_for_tests(content: str) -> set[str]:
+    """The source sets that a mapping which was printed has for the tests of its drawing."""
+    return set() if is_as_printed(content) is None else set(FOR_TESTS.findall(content))
