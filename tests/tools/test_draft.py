@@ -322,6 +322,12 @@ class Nulls(Draft):
             script = self.printed("clio-tables", "postgres", "--null", null, "--types", "types.txt")
             self.assertIn("\n1\t\t\\N\t", script)
 
+    def test_defaults(self) -> None:
+        """A column that the database fills needs no line, and is told apart."""
+        self.base("CREATE TABLE t (id INTEGER PRIMARY KEY, a TEXT NOT NULL, b TEXT NOT NULL DEFAULT 'x', c DEFAULT 7)")
+        said = self.printed("clio-draft", "sqlite", "old.db", "--side", "target")
+        self.assertIn("    // NOT NULL: id, a\n    // NOT NULL, with a default: b\n", said)
+
     def test_needs_data(self) -> None:
         self.base("CREATE TABLE t (id)")
         self.refused("clio-draft", "sqlite", "old.db", "--null", "x", why="--null needs --data")

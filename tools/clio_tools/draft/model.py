@@ -25,6 +25,7 @@ class Column:
     word: str = ""
     type: str = ""  # as the database names it
     is_numbered: bool = False  # the database gives it numbers
+    has_default: bool = False  # the database gives it another value
 
 
 @dataclasses.dataclass

@@ -14,7 +14,8 @@ TABLES = """SELECT c.oid, c.relname FROM pg_catalog.pg_class c JOIN pg_catalog.p
  ORDER BY c.relkind IN ('v', 'm'), c.relname"""
 VIEWS = ", 'v', 'm'"
 COLUMNS = """SELECT a.attrelid, a.attnum, a.attname, a.attnotnull, pg_catalog.format_type(a.atttypid, NULL),
- a.attidentity <> '' OR coalesce(pg_catalog.pg_get_expr(d.adbin, d.adrelid), '') LIKE 'nextval(%%'
+ a.attidentity <> '' OR coalesce(pg_catalog.pg_get_expr(d.adbin, d.adrelid), '') LIKE 'nextval(%%',
+ coalesce(pg_catalog.pg_get_expr(d.adbin, d.adrelid), 'nextval(') NOT LIKE 'nextval(%%'
  FROM pg_catalog.pg_attribute a
  LEFT JOIN pg_catalog.pg_attrdef d ON d.adrelid = a.attrelid AND d.adnum = a.attnum AND a.attgenerated = ''
  WHERE a.attnum > 0 AND NOT a.attisdropped AND a.attrelid = ANY (%s::oid[]) ORDER BY a.attrelid, a.attnum"""
@@ -43,9 +44,10 @@ class Base:
                 raise Refused(f"there is no table in the schema {self.schema}, or no such schema")
             oids = "{" + ",".join(named) + "}"
             numbers: dict[tuple[str, str], str] = {}
-            for oid, number, name, filled, kind, is_numbered in self._all(COLUMNS, oids):
+            for oid, number, name, filled, kind, is_numbered, has_default in self._all(COLUMNS, oids):
                 why_not = "it is of type bytea, which is no text" if kind == "bytea" else ""
-                named[oid].columns.append(Column(name, filled == "f", why_not, "", kind, is_numbered == "t"))
+                named[oid].columns.append(Column(name, filled == "f", why_not, "", kind, is_numbered == "t",
+                                                 has_default == "t"))
                 numbers[oid, number] = name
             for oid, key, count in self._all(KEYS, oids):
                 named[oid].keys.append([numbers[oid, number] for number in key.split(" ")[: int(count)]])

@@ -60,11 +60,12 @@ class Base:
         columns = []
         listed = self.ask(f"PRAGMA table_xinfo({quoted(name)})").fetchall()
         is_alone = sum(1 for row in listed if row[5]) == 1
-        for _, column, kind, filled, _, place, hidden in listed:
+        for _, column, kind, filled, default, place, hidden in listed:
             if hidden != 1:
                 why_not = "it is a BLOB, which is no text" if "BLOB" in kind.upper() else ""
                 is_numbered = is_alone and bool(place) and kind.upper() == "INTEGER"
-                columns.append(Column(column, not filled and not place, why_not, "", kind, is_numbered))
+                columns.append(Column(column, not filled and not place, why_not, "", kind, is_numbered,
+                                      default is not None))
         return Table(name, columns, is_of_catalog=True)
 
     def _add_keys(self, table: Table) -> None:

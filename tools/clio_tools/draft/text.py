@@ -59,8 +59,12 @@ def wrapped(words: list[str], blanks: str) -> list[str]:
 
 def filled_line(table: Table, side_name: str) -> list[str]:
     """A comment on the columns of the target that must have a value in each row."""
-    filled = [column.word for column in table.said if not column.may_be_null]
-    return [f"// NOT NULL: {', '.join(filled)}"] if filled and side_name == "target" and table.is_of_catalog else []
+    if side_name != "target" or not table.is_of_catalog:
+        return []
+    filled = [column for column in table.said if not column.may_be_null]
+    bare = ", ".join(column.word for column in filled if not column.has_default)
+    given = ", ".join(column.word for column in filled if column.has_default)
+    return [f"// NOT NULL: {bare}"] * bool(bare) + [f"// NOT NULL, with a default: {given}"] * bool(given)
 
 
 def key_line(table: Table, key: list[str], side_name: str) -> str:
