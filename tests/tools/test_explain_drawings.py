@@ -129,6 +129,24 @@ rule g(city = c) -> leg(a = c);
                       "     line 4: rows leg from f;\n     line 7: line p.city -> leg.a;\n", said)
         self.assertNotIn("rule 2 is of", said)  # it has no part in the clash
 
+    def test_a_set_twice_is_meant(self) -> None:
+        """In a rule that a drawing means it is no cause of a clash."""
+        self.file("drawing.clio", """mapping 1;
+source { set e { no, name, boss; ref (boss) -> e (no); } }
+target { set p { no, name, boss; key (no); } }
+rows p from e;
+line e.no -> p.no;
+line e.name -> p.name;
+line e.name -> p.boss by boss;
+""")
+        self.file("e.csv", "no,name,boss\n1,ann,2\n1,ann,3\n2,bob,\n3,cyd,\n")
+        (self.folder / "mapping.clio").unlink()
+        self.printed("clio-rules", "--write")
+        status, _, said = self.tool("clio-explain", "exchange")
+        self.assertEqual(status, 3)
+        self.assertNotIn("leave out a ref", said)
+        self.assertIn("is of drawing.clio: p: boss of each e with the e by boss", said)
+
     def test_a_rule_that_follows_from_another_has_no_number(self) -> None:
         """The rule of stop follows from a later one: clio's numbers are those without it."""
         self.file("drawing.clio", """mapping 1;

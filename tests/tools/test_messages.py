@@ -178,6 +178,18 @@ class Messages(Trial):
                       'there, so in rules 0:',
                       self.said("exchange", status=3))
 
+    def test_clash_of_an_empty_key(self) -> None:
+        """Nothing in a key is the cause, not that a rule has a set twice or that two rules fill the column."""
+        self.file("mapping.clio", """mapping 1; source { set a { x, tax, boss; } }
+            target { set t { x, tax, over; key (x); key (tax); } }
+            rule a(x, t, b) -> t(x, t, o);
+            rule a(x, t, b), a(b, u, c) -> t(x, t, b);""")
+        self.file("a.csv", "x,tax,boss\n1,,3\n2,,3\n3,7,\n")
+        said = self.said("exchange", status=3)
+        self.assertIn("cause: tax is empty in these rows, and equal empty texts make rows one: a line of a drawing "
+                      "leaves it open there by `where COLUMN filled`", said)
+        self.assertEqual(said.count("cause: "), 1)
+
     def test_clash_of_two_refs(self) -> None:
         self.file("mapping.clio", """mapping 1;
             source { set customer { id, name; key (id); }

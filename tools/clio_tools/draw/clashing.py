@@ -17,7 +17,7 @@ def of_clash(message: str, mapping: Mapping, printed: list[str], content: bytes,
     told = FORM.fullmatch(message)
     made: Data = {"status": 3, "message": message, "at": None, "cures": of_clash_in(told[1], page) if told else []}
     try:
-        found = Clashes(mapping, printed)
+        found = Clashes(mapping, printed, page.is_drawing)
     except TooMany:
         lines = ["the matches of the rules are too many to look for all clashes here"]
         return {**made, "lines": shown.pieces(lines), "clash": []}

@@ -3,6 +3,7 @@ import re
 from collections.abc import Iterator
 
 from clio_tools.explain.causes import shown_ref
+from clio_tools.explain.drawn import PRINTED
 from clio_tools.explain.joins import Matches, TooMany
 from clio_tools.explain.key_chase import Canonical, Clash, KeyChase, KeyStep, Origin, Value
 from clio_tools.explain.pieces import Piece, RowLine
@@ -23,8 +24,11 @@ FORM = re.compile(rf"clash: table (\w+), key \(([#\w, ]+)\): {STRING} and {STRIN
 class Clashes:
     """The clashes, and what is needed to tell them."""
 
-    def __init__(self, mapping: Mapping, printed: list[str]) -> None:
-        self.mapping, self.printed = mapping, printed
+    def __init__(self, mapping: Mapping, printed: list[str], is_drawn: bool = False) -> None:
+        """The clashes of a mapping; of one that is printed from a drawing, in which a set that a rule has twice is
+        meant.
+        """
+        self.mapping, self.printed, self.is_drawn = mapping, printed, is_drawn
         self.source = Source(mapping)
         matches = [Matches(rule, self.source) for rule in mapping.rules]
         self.canonical = Canonical(mapping.rules, matches, mapping.target)
@@ -75,10 +79,17 @@ class Clashes:
             yield f"and {len(ordered) - IN_ALL:,} more"
 
     def causes(self, clash: Clash) -> Iterator[str]:
-        """What of the mapping makes the texts of a clash meet: a text of its own, or a set that a rule has twice."""
+        """What makes the texts of a clash meet: a key with nothing in it, or of the mapping a text of its own, or a set
+        that a rule has twice, if that isn't meant.
+        """
+        table, key, column = self.names(clash)
+        if not any(clash.agreed):
+            yield (f"cause: {listed(key)} is empty in these rows, and equal empty texts make rows one: a line of a"
+                   " drawing leaves it open there by `where COLUMN filled` (man clio-rules); in mapping 2, `only"
+                   " SET.COLUMN filled;` leaves such rows out")
+            return
         origins = [self.canonical.origins[clash.table][rows[0]][0] for rows in clash.texts.values()]
         cells = [self.mapping.rules[one.rule].conclusion[one.atom].cells[clash.column] for one in origins]
-        table, _, column = self.names(clash)
         literals = dict.fromkeys(str(cell.content) for cell in cells if cell.kind == LITERAL)
         for text in literals:
             rules = listed(str(number) for number, rule in enumerate(self.mapping.rules)
@@ -87,7 +98,7 @@ class Clashes:
             yield (f"cause: {shown(text)} is a text of the mapping: its line fills {table}.{column} in each rule that"
                    f" no other line fills there, so in rules {rules}: make the key hold apart what these rules make,"
                    " or say in a drawing for which rows it is, by `from` or `where` (man clio-rules)")
-        twice = [line for number in dict.fromkeys(one.rule for one in origins) for line in self.twice(number)]
+        twice = [] if self.is_drawn else [line for number in dict.fromkeys(one.rule for one in origins) for line in self.twice(number)]
         yield from twice
         if len({one.rule for one in origins}) > 1 and not literals and not twice:
             rules = listed(dict.fromkeys(str(one.rule) for one in origins))
@@ -169,6 +180,6 @@ def explain(message: str, content: bytes) -> Iterator[Piece]:
     if mapping is None:
         return
     try:
-        yield from Clashes(mapping, printed).pieces(message)
+        yield from Clashes(mapping, printed, bool(PRINTED.match(content))).pieces(message)
     except TooMany:
         yield "the matches of the rules are too many to look for all clashes here"
