@@ -147,6 +147,22 @@ line e.name -> p.boss by boss;
         self.assertNotIn("leave out a ref", said)
         self.assertIn("is of drawing.clio: p: boss of each e with the e by boss", said)
 
+    def test_columns_that_a_test_reads_by_another_name(self) -> None:
+        """A file of which a drawing has a second name, for a test, is looked at once."""
+        self.file("drawing.clio", """mapping 2;
+source { set e { no, tax, note; } }
+target { set p { no, tax; key (no); key (tax); } }
+rows p from e;
+line e.no -> p.no;
+line e.tax -> p.tax where tax filled;
+""")
+        self.file("e.csv", "no,tax,note\n1,,x\n2,7,y\n3,,z\n")
+        (self.folder / "mapping.clio").unlink()
+        self.printed("clio-rules", "--write")
+        said = self.tool("clio-explain", "exchange")[2]
+        self.assertIn("no rule uses 1 column of e: note [unused e]", said)
+        self.assertEqual(said.count("[unused"), 1, said)
+
     def test_a_rule_that_follows_from_another_has_no_number(self) -> None:
         """The rule of stop follows from a later one: clio's numbers are those without it."""
         self.file("drawing.clio", """mapping 1;

@@ -87,13 +87,18 @@ class Traps:
                         rules=(number,))
 
     def unused_columns(self) -> Iterator[Warned]:
-        """Columns of the source that go nowhere and join nothing."""
-        used = {(atom.table, column) for rule in self.rules for atom, column in used_cells(rule)}
-        read = {atom.table for rule in self.rules for atom in rule.premise}
-        for number, table in enumerate(self.source):
+        """Columns of the source that go nowhere and join nothing. Sets that read one file are looked at as one: a
+        drawing has a second name of a file for its tests.
+        """
+        files = [one_file(number, table) for number, table in enumerate(self.source)]
+        used = {(files[atom.table], column) for rule in self.rules for atom, column in used_cells(rule)}
+        read = {files[atom.table] for rule in self.rules for atom in rule.premise}
+        for number, (file, table) in enumerate(zip(files, self.source)):
             unused = [name for column, name in enumerate(table.columns)
-                      if name in table.tree.columns and (number, column) not in used]
-            if number not in read:
+                      if name in table.tree.columns and (file, column) not in used]
+            if files.index(file) < number:
+                continue
+            if file not in read:
                 yield Warned("unused", table.name, [f"no rule uses {table.name} of the source"])
             elif unused:
                 yield Warned("unused", table.name, [
@@ -335,6 +340,11 @@ class Traps:
                     places = [matches.exported.index(int(cell.content)) for cell in cells if cell.kind == VARIABLE]
                     count = sum(1 for texts in matches.found if not any(texts[place] for place in places))
                     empty[atom.table, key] = empty.get((atom.table, key), 0) + count
+
+
+def one_file(number: int, table: Table) -> pathlib.Path | int:
+    """What is the same for two tables that are read from one file: its path, or of a document the table's number."""
+    return number if table.parent is not None or table.inner else pathlib.Path(file_of(table)).resolve()
 
 
 def used_cells(rule: Rule) -> list[tuple[Premise, int]]:
