@@ -4,6 +4,7 @@ import json
 import os
 import re
 import shutil
+import sqlite3
 import subprocess
 import unittest
 
@@ -334,6 +335,30 @@ rule sale(i, b, n) -> orders(i, n, c), customer(c, b), visit(v, c), loose(l, n);
         self.file("sale.csv", "id,buyer,note\n4,eve,\n1,zoe,a\n")  # as clio-load would read it, which runs clio itself
         self.assertIn('buyer = "eve"', self.printed("clio-why", "--ids", "ids.db", "customer", "cname=eve"))
         self.refused("clio-why", "customer", "cname=eve", why="out is not of these files")
+
+    def test_numbers_of_tables_that_were_there(self) -> None:
+        """With --identity the numbers are the database's, and none that the crosswalk has for another thing."""
+        self.file("mapping.clio", """mapping 1; source { set sale { id, buyer; } }
+            target { set customer { cid, cname; key (cid); key (cname); }
+              set orders { oid, cid; key (oid); ref (cid) -> customer (cid); } }
+            line sale.id -> orders.oid; line sale.buyer -> customer.cname;""")
+        self.file("sale.csv", "id,buyer\n1,ann\n2,bob\n3,cyd\n")
+        base = sqlite3.connect(self.folder / "shop.db")
+        base.executescript("CREATE TABLE customer (cid INTEGER PRIMARY KEY, cname TEXT UNIQUE);"
+                           "CREATE TABLE orders (oid INTEGER PRIMARY KEY, cid INTEGER REFERENCES customer);"
+                           "INSERT INTO customer VALUES (1, 'cyd'), (2, 'ann'), (9, 'eve')")
+        self.printed("clio-load", "sqlite", "shop.db", "--ids", "ids.db", "--identity")
+        there = dict(base.execute("SELECT cname, cid FROM customer"))
+        base.close()
+        self.assertEqual({name: there[name] for name in ("ann", "cyd")}, {"ann": 2, "cyd": 1})
+        for order, name in enumerate(("ann", "bob", "cyd"), 1):
+            told = self.printed("clio-why", "--ids", "ids.db", "customer", str(there[name]))
+            self.assertIn(f'cname  "{name}"', told)
+            self.assertIn(f" (number {there[name]}): nobody gave it", told)
+            self.assertIn(f'oid  "{order}"', self.printed("clio-why", "--ids", "ids.db", "orders", f"cid={there[name]}"))
+        self.assertEqual(self.tool("clio-why", "--ids", "ids.db", "customer", "9")[0], 1)
+        known = json.loads(self.printed("clio-why", "--json", "--ids", "ids.db", "customer", "cname=bob"))
+        self.assertEqual(list(known["reasons"][0]["numbers"].values()), [there["bob"]])
 
 
 if __name__ == "__main__":

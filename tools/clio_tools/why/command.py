@@ -24,8 +24,8 @@ run, it says so. If out is missing, or has the rules of another mapping or the n
 and there is `--ids`, clio-why itself runs `clio exchange`, in a folder of its own.
 
 OPTIONS
-`--ids CROSSWALK`: if clio-ids gave a number to a null, KEY can have this number, as a database has it, and nulls are
-printed with theirs.
+`--ids CROSSWALK`: if clio-ids or clio-load gave a number to a null, KEY can have this number, as a database has it, and
+nulls are printed with theirs.
 
 `--core`: if clio-why runs clio itself, it does so in core mode.
 
@@ -159,7 +159,7 @@ def of_target(reasons: Reasons, given: argparse.Namespace) -> Iterator[Told]:
         reason = reasons.row(table.name, row.values, None if given.all else MOST_MATCHES)
         place = f", line {row.line} of out/{table.name}.csv" if exchange.folder == pathlib.Path() else ""
         said = list(with_drawing(words.of_row(reason, table.name + place), "", exchange.content))
-        yield as_json(reason) | {"numbers": numbers.known if numbers else {}}, said
+        yield as_json(reason) | {"numbers": numbers.all_known() if numbers else {}}, said
 
 
 def of_source(reasons: Reasons, given: argparse.Namespace) -> Iterator[Told]:

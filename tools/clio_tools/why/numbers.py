@@ -41,6 +41,10 @@ class Numbers:
         self.numbered = {(name, column) for name, column, is_numbered
                          in self.ask("SELECT set_name, column_name, is_numbered FROM numbered") if is_numbered}
         self.known: dict[str, int | None] = {}
+        self.given: dict[int, set[int]] = {}  # the numbers of things to which clio-load --identity gave other ones
+        if self.ask("SELECT 1 FROM sqlite_master WHERE name = 'given'"):
+            for number, value in self.ask("SELECT number, value FROM given"):
+                self.given.setdefault(int(str(number)), set()).add(int(str(value)))
 
     def ask(self, query: str, *values: object) -> list[tuple[object, ...]]:
         """The rows of a query."""
@@ -52,8 +56,16 @@ class Numbers:
     def values(self, name: str, column: str, text: str) -> set[str]:
         """What a value that was given may be in a column of the target: the null that has this number, or the text."""
         if (name, column) in self.numbered and text.isascii() and text.isdigit():
-            return set(self.nulls(name, column, int(text)))
+            return {null for number in self.of_thing(int(text)) for null in self.nulls(name, column, number)}
         return values_of(text)
+
+    def of_thing(self, number: int) -> list[int]:
+        """The crosswalk's numbers of things that have a number in the database."""
+        return [one for one, given in self.given.items() if number in given] + [number] * (number not in self.given)
+
+    def in_database(self, number: int) -> int:
+        """The number in the database of a thing that has one of the crosswalk's."""
+        return min(self.given.get(number, {number}))
 
     def nulls(self, name: str, column: str, number: int) -> Iterator[str]:
         """The nulls that have a number: by the keys that it is known by, or else by what nulls of the column are made
@@ -133,4 +145,8 @@ class Numbers:
     def shown(self, value: str) -> str:
         """The name of a null, with its number."""
         number = self.number(value)
-        return value if number is None else f"{value} (number {number})"
+        return value if number is None else f"{value} (number {self.in_database(number)})"
+
+    def all_known(self) -> dict[str, int | None]:
+        """The number in the database of each null that was looked at."""
+        return {null: None if number is None else self.in_database(number) for null, number in self.known.items()}
