@@ -192,6 +192,8 @@ rule f(x = v) -> stop(x = v), leg(x = v), stop(x = "s");
         for line in ("rule 1 of other.clio doesn't follow from mapping.clio", "rule 1 (before any is left out) has"):
             self.assertEqual(list(with_drawing([line], "", content)), [line])
         self.assertEqual(len(list(with_drawing(["rule 1 of mapping.clio"], "rules 0, 1", content))), 1 + 3 + 3)
+        said = list(with_drawing(["it is in 2 matches (1 of rule 0, 1 of rule 2)"], "", content))
+        self.assertEqual([line[:20] for line in said if " is of " in line], ["rule 0 is of drawing", "rule 2 is of drawing"])
         os.chdir(before)
 
     def test_another_drawing(self) -> None:

@@ -16,8 +16,9 @@ from clio_tools.rules.ways import Wrong
 P = TypeVar("P", bound=Piece)
 MOST = 20  # rules, and statements of each
 PRINTED = re.compile(rb"// Printed by clio-rules from ([\w.-]+): ")
-# not those of another mapping, nor those with the numbers of rules before any is left out
-NAMED = re.compile(r"\brules? ([0-9]+(?:, [0-9]+)*(?: and [0-9]+)?)\b(?! of other[.]clio| \(before)")
+# not those of another mapping, nor those with the numbers of rules before any is left out, nor the 2 of "rule 1, 2 of
+# rule 3"
+NAMED = re.compile(r"\brules? ([0-9]+(?:, [0-9]+\b(?! of rule))*(?: and [0-9]+)?)\b(?! of other[.]clio| \(before)")
 
 
 def with_drawing(pieces: Iterable[P], message: str, content: Optional[bytes]) -> Iterator[P | str]:
