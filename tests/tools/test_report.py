@@ -273,6 +273,22 @@ class Reports(Trial):
         self.assertIn("merged by keys and dependencies", told)
         self.assertIn("addr 2 0 0 0 2", told)
 
+    def test_a_file_with_two_names(self) -> None:
+        """A drawing has a second name of a file for its tests: the columns of the file are counted once."""
+        self.file("drawing.clio", """mapping 2;
+source { set e { no, tax, note; } }
+target { set p { no, tax; key (no); key (tax); } }
+rows p from e;
+line e.no -> p.no;
+line e.tax -> p.tax where tax filled;
+""")
+        self.file("e.csv", "no,tax,note\n1,,x\n2,7,y\n3,,z\n")
+        self.printed("clio-rules", "--write")
+        self.assertEqual(self.clio("exchange")[0], 0)
+        page = self.printed("clio-report")
+        self.assertIn("1 column of the source goes nowhere.", page)
+        self.assertEqual(re.findall("No rule uses <code>([^<]*)", page), ["note"])
+
     def test_refusals(self) -> None:
         self.refused("clio-report", "a", "b", why="usage")
         self.refused("clio-report", why="mapping.clio: No such file")

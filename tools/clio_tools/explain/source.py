@@ -131,3 +131,10 @@ class Source:
 def file_of(table: Table) -> str:
     """The file of a root."""
     return table.name + (".json" if table.inner else ".csv")
+
+
+def files_of(tables: list[Table]) -> list[pathlib.Path | int]:
+    """What each table is read from, the same for those of one file: its path, or for a part of a document a number. A
+    drawing has a second name of a file for its tests."""
+    return [number if table.parent is not None or table.inner else pathlib.Path(file_of(table)).resolve()
+            for number, table in enumerate(tables)]

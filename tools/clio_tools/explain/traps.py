@@ -10,7 +10,7 @@ from clio_tools.explain.pieces import Piece, RowLine, Warned
 from clio_tools.explain.program import mapping_of
 from clio_tools.explain.quotes import odd_fields
 from clio_tools.explain.said import amount, listed, shown, visible
-from clio_tools.explain.source import Source, file_of
+from clio_tools.explain.source import Source, file_of, files_of
 from clio_tools.mapping import cures
 from clio_tools.mapping.meaning import Mapping, read_mapping
 from clio_tools.mapping.rules import (EXISTENTIAL, LITERAL, VARIABLE, Cell, Conclusion, Premise, Rule, TooLarge,
@@ -87,10 +87,8 @@ class Traps:
                         rules=(number,))
 
     def unused_columns(self) -> Iterator[Warned]:
-        """Columns of the source that go nowhere and join nothing. Sets that read one file are looked at as one: a
-        drawing has a second name of a file for its tests.
-        """
-        files = [one_file(number, table) for number, table in enumerate(self.source)]
+        """Columns of the source that go nowhere and join nothing; sets of one file are looked at as one."""
+        files = files_of(self.source)
         used = {(files[atom.table], column) for rule in self.rules for atom, column in used_cells(rule)}
         read = {files[atom.table] for rule in self.rules for atom in rule.premise}
         for number, (file, table) in enumerate(zip(files, self.source)):
@@ -340,11 +338,6 @@ class Traps:
                     places = [matches.exported.index(int(cell.content)) for cell in cells if cell.kind == VARIABLE]
                     count = sum(1 for texts in matches.found if not any(texts[place] for place in places))
                     empty[atom.table, key] = empty.get((atom.table, key), 0) + count
-
-
-def one_file(number: int, table: Table) -> pathlib.Path | int:
-    """What is the same for two tables that are read from one file: its path, or of a document the table's number."""
-    return number if table.parent is not None or table.inner else pathlib.Path(file_of(table)).resolve()
 
 
 def used_cells(rule: Rule) -> list[tuple[Premise, int]]:

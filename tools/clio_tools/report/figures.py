@@ -7,7 +7,7 @@ from clio_tools.csv import read_table
 from clio_tools.explain.joins import Matches, TooMany
 from clio_tools.explain.key_chase import Cells, KeyChase, KeyStep, Null, Value, cell_value
 from clio_tools.explain.program import mapping_of
-from clio_tools.explain.source import Row, Source
+from clio_tools.explain.source import Row, Source, files_of
 from clio_tools.explain.traps import used_cells
 from clio_tools.ids.nulls import Marks
 from clio_tools.ids.target import is_renamed
@@ -126,9 +126,11 @@ class SourceFigures:
                 self.used = bytes(map(int.__or__, self.used, own))
         self.not_used = [row for row, used in enumerate(self.used) if not used]
         self.reasons = Counter(self.reason(row, number, source) for row in self.not_used)
-        going = {column for rule in rules for atom, column in used_cells(rule) if atom.table == number}
+        files = files_of(source.tables)  # the columns of one file are told of the first set that is read from it
+        going = {column for rule in rules for atom, column in used_cells(rule) if files[atom.table] == files[number]}
         self.unused_columns = [name for column, name in enumerate(self.table.columns)
-                               if name in self.table.tree.columns and column not in going]
+                               if name in self.table.tree.columns and column not in going
+                               and files.index(files[number]) == number]
 
     def reason(self, row: int, number: int, source: Source) -> str:
         """Why no rule used a row."""
