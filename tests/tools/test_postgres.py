@@ -3,6 +3,7 @@ import contextlib
 import io
 import os
 import pathlib
+import re
 import signal
 import subprocess
 import sys
@@ -191,7 +192,7 @@ class Places(unittest.TestCase):
 
 class Missing(unittest.TestCase):
     def test_how_to_get_it(self) -> None:
-        how = "pip install .*python3-psycopg"
+        how = f"which {re.escape(sys.executable)} doesn't have: pip install .*python3-psycopg, for /usr/bin/python3"
         with unittest.mock.patch.dict(sys.modules, {"psycopg": None}), self.assertRaisesRegex(Refused, how):
             Session("x")
 

@@ -9,6 +9,7 @@ from __future__ import annotations
 import contextlib
 import re
 import select
+import sys
 from collections.abc import Generator, Iterable, Iterator
 from typing import IO, TYPE_CHECKING, Any, NamedTuple, cast
 
@@ -17,8 +18,8 @@ from clio_tools.program import Refused, stop_by_exception
 if TYPE_CHECKING:
     import psycopg
 
-MISSING = ("PostgreSQL is reached by psycopg 3, which is missing: pip install 'psycopg[binary]' (Debian:"
-           " python3-psycopg)")
+MISSING = (f"PostgreSQL is reached by psycopg 3, which {sys.executable} doesn't have: pip install 'psycopg[binary]'"
+           " (Debian: python3-psycopg, for /usr/bin/python3)")
 UNREADABLE = ("the connection is neither a database's name, nor a URI postgresql://.., nor words such as host=db1"
               " dbname=shop")
 SECRETS = "password", "sslpassword"
