@@ -346,6 +346,8 @@ class Drawn(Draft):
         self.file("drawing.clio", drawing)
         self.printed("clio-rules", "--write")
         self.base(table + ", (2, 'G', '')")
+        self.refused("clio-draft", "sqlite", "old.db", "--data", ".", "--mapping", "drawing.clio",
+                     why="drawing.clio is a drawing: name the mapping.clio that clio-rules --write makes of it")
         self.printed("clio-draft", "sqlite", "old.db", "--data", ".", "--mapping", "mapping.clio")
         self.assertEqual((self.folder / "is_F.csv").read_text(), 'text\n"F"\n')
         self.assertEqual(os.readlink(self.folder / "t_mail_filled.csv"), "t.csv")

@@ -28,8 +28,8 @@ doesn't match, a limit that is exceeded.
 
 `--mapping FILE` writes the data for the sets that a mapping text declares, with the columns in their order, and prints
 nothing. So a file with its columns in another order, or a database with more tables, is read by a mapping that is
-there. Of a document, remarks name members and arrays that the mapping doesn't have, which are left out; a declared
-member that no object has is empty.
+there; of one that clio-rules printed, the files that tests take are left to clio-rules. Of a document, remarks name
+members and arrays that the mapping doesn't have, which are left out; a declared member that no object has is empty.
 
 `--null TEXT` writes NULL, and null in a document, as this text in place of the empty one, so that they stay apart. It
 is refused if something else is this text. `clio-tables --null TEXT` makes NULL of it again.
@@ -130,6 +130,8 @@ def wanted_sets(base: Base, side: Side, mapping: str | None) -> list[Wanted]:
         text = content_of(pathlib.Path(mapping)).decode("utf-8", "replace")
         sets = read_sets(text)["source"]
     except ValueError as error:
+        if pathlib.Path(mapping).name == "drawing.clio":
+            raise Refused(f"{mapping} is a drawing: name the mapping.clio that clio-rules --write makes of it") from None
         raise Refused(f"{mapping}: {error}") from None
     hint = "; a set has the name of its file" if isinstance(base, (delimited.Base, document.Base)) else ""
     of_drawing = sets_for_tests(text) - {table.word for table in side.said}  # clio-rules writes their files
