@@ -347,7 +347,7 @@ class Drawn(Draft):
         self.printed("clio-rules", "--write")
         self.base(table + ", (2, 'G', '')")
         self.refused("clio-draft", "sqlite", "old.db", "--data", ".", "--mapping", "drawing.clio",
-                     why="drawing.clio is a drawing: name the mapping.clio that clio-rules --write makes of it")
+                     why="drawing.clio: this is a drawing: name the mapping.clio that clio-rules --write makes of it")
         self.printed("clio-draft", "sqlite", "old.db", "--data", ".", "--mapping", "mapping.clio")
         self.assertEqual((self.folder / "is_F.csv").read_text(), 'text\n"F"\n')
         self.assertEqual(os.readlink(self.folder / "t_mail_filled.csv"), "t.csv")

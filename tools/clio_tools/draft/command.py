@@ -131,7 +131,7 @@ def wanted_sets(base: Base, side: Side, mapping: str | None) -> list[Wanted]:
         sets = read_sets(text)["source"]
     except ValueError as error:
         if pathlib.Path(mapping).name == "drawing.clio":
-            raise Refused(f"{mapping} is a drawing: name the mapping.clio that clio-rules --write makes of it") from None
+            error = ValueError("this is a drawing: name the mapping.clio that clio-rules --write makes of it")
         raise Refused(f"{mapping}: {error}") from None
     hint = "; a set has the name of its file" if isinstance(base, (delimited.Base, document.Base)) else ""
     of_drawing = sets_for_tests(text) - {table.word for table in side.said}  # clio-rules writes their files

@@ -98,7 +98,8 @@ class Clashes:
             yield (f"cause: {shown(text)} is a text of the mapping: its line fills {table}.{column} in each rule that"
                    f" no other line fills there, so in rules {rules}: make the key hold apart what these rules make,"
                    " or say in a drawing for which rows it is, by `from` or `where` (man clio-rules)")
-        twice = [] if self.is_drawn else [line for number in dict.fromkeys(one.rule for one in origins) for line in self.twice(number)]
+        used = dict.fromkeys(one.rule for one in origins if not self.is_drawn)
+        twice = [line for number in used for line in self.twice(number)]
         yield from twice
         if len({one.rule for one in origins}) > 1 and not literals and not twice:
             rules = listed(dict.fromkeys(str(one.rule) for one in origins))

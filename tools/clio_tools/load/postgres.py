@@ -321,7 +321,8 @@ class Postgres(Database):
         """Sets what numbers a column behind the greatest number in it, and behind another one."""
         if column.sequence is None:
             return
-        greatest = self.count(f"SELECT greatest((SELECT max({identifier(column.name)}) FROM {plan.table.sql}), {least})")
+        there = f"SELECT max({identifier(column.name)}) FROM {plan.table.sql}"
+        greatest = self.count(f"SELECT greatest(({there}), {least})")
         last = self.count(f"SELECT last_value - CASE WHEN is_called THEN 0 ELSE 1 END FROM {column.sequence}")
         if greatest > last:
             self.value(f"SELECT pg_catalog.setval({literal(column.sequence)}, {greatest})")
