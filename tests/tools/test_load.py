@@ -492,7 +492,7 @@ class Common(Loads):
         self.source(changed(FIRST, client=[*FIRST["client"], ["ann@x", "Other", "", "true"]]))
         status, out, said = self.tool("clio-load", *self.base.words)
         self.assertEqual((status, out), (3, ""))
-        self.assertIn("clash: ", said)
+        self.assertRegex(said, "^clash: .*\nclio-load: nothing is changed; clio-explain exchange says more\n$")
 
     def test_killed(self) -> None:
         """A load that is killed at any time changes nothing, or has done all."""

@@ -23,6 +23,7 @@ from clio_tools.safe_files import content_of
 from clio_tools.tables.command import read_summary
 
 AGAIN = "run clio exchange again"
+EXPLAINED = range(3, 7)  # a clash, and faults of the mapping, of a file, and of the sizes: clio's statuses
 OTHER_FILES = "rules.txt", "nulls.csv", "fold.csv"
 
 
@@ -65,7 +66,8 @@ class Workspace:
             done = subprocess.run([program(), "exchange", *["--core"] * core], cwd=self.folder,
                                   stdin=subprocess.DEVNULL, stdout=file, stderr=subprocess.PIPE, check=False)
         if done.returncode:
-            pass_on(done.stderr, done.returncode)
+            more = f"clio-load: nothing is changed; clio-explain exchange{' --core' * core} says more\n"
+            pass_on(done.stderr + more.encode() * (done.returncode in EXPLAINED), done.returncode)
         self.counts = read_summary(str(summary))
 
     def take(self, out: pathlib.Path, summary: str) -> None:
