@@ -336,6 +336,30 @@ rule sale(i, b, n) -> orders(i, n, c), customer(c, b), visit(v, c), loose(l, n);
         self.assertIn('buyer = "eve"', self.printed("clio-why", "--ids", "ids.db", "customer", "cname=eve"))
         self.refused("clio-why", "customer", "cname=eve", why="out is not of these files")
 
+    def test_what_a_used_row_misses(self) -> None:
+        """Along an optional ref, and in a drawing; not an empty text, nor the sets of a drawing's tests."""
+        side = """source {
+  set e { no, kind, dept; ref (dept) -> d (name)OPTIONAL; }
+  set d { name, town; }
+}
+target { set p { no, town, kind; key (no); } }
+"""
+        self.file("mapping.clio", "mapping 2;\n" + side.replace("OPTIONAL", " optional") + "line e.no -> p.no;\n"
+                  "line e.kind -> p.kind;\nline d.town -> p.town;\n")
+        self.file("e.csv", "no,kind,dept\n1,f,toys\n2,g,cars\n3,f,\n")
+        self.file("d.csv", "name,town\ntoys,Bonn\n")
+        said = 'it misses:\n  no row of d has name = "cars", as e (dept) asks for it'
+        for is_drawn in False, True:
+            self.exchanged()
+            self.assertEqual(["it misses" in self.printed("clio-why", "--not", "e", f"no={no}") for no in (1, 2, 3)],
+                             [False, True, False])
+            self.assertIn(said, self.printed("clio-why", "--not", "e", "no=2"))
+            if not is_drawn:
+                (self.folder / "mapping.clio").unlink()
+                self.file("drawing.clio", "mapping 1;\n" + side.replace("OPTIONAL", "") + "rows p from e;\n"
+                          "line e.no -> p.no;\nline e.kind -> p.kind where kind = \"f\";\nline d.town -> p.town;\n")
+                self.printed("clio-rules", "--write")
+
     def test_numbers_of_tables_that_were_there(self) -> None:
         """With --identity the numbers are the database's, and none that the crosswalk has for another thing."""
         self.file("mapping.clio", """mapping 1; source { set sale { id, buyer; } }

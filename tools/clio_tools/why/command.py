@@ -12,10 +12,10 @@ or rule of the mapping, or that nobody gave it; then which matches of which rule
 rows; then which key or dependency put what in the place of a null that these matches left open, since which two rows
 agree; or which row says as much, if core mode left it out.
 
-With --not, of a row of a source set: the rows of the target in which it has a part; or the condition that it fails, the
-row that a ref of it, or of a row to which it leads, or a rule, looks for and that isn't there (or fails a condition, or
-has the text with other capitals or blanks), and the change of mapping.clio that would keep it. Such a change is tried
-before it is said.
+With --not, of a row of a source set: the rows of the target in which it has a part, and what isn't there that other
+rules look for, as along an optional ref; or, if no rule uses it, the condition that it fails, the row that a ref of it,
+or of a row to which it leads, or a rule, looks for and that isn't there (or fails a condition, or has the text with
+other capitals or blanks), and the change of mapping.clio that would keep it. Such a change is tried before it is said.
 
 Of the rules of a mapping that clio-rules printed, it says which statements of the drawing led to them.
 

@@ -169,3 +169,4 @@ class SourceReason:
     rules: tuple[tuple[int, int], ...]
     misses: tuple[Miss, ...]
     edits: tuple[Edit, ...]
+    besides: tuple[Miss, ...] = ()  # what one that rules use misses in others

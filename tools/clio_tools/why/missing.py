@@ -3,13 +3,13 @@ from __future__ import annotations
 
 import pathlib
 import tempfile
-from collections.abc import Iterator
+from collections.abc import Iterable, Iterator
 from typing import NamedTuple
 
 from clio_tools.explain.program import mapping_of
 from clio_tools.mapping import tree
 from clio_tools.mapping.meaning import Mapping
-from clio_tools.rules.printed import is_as_printed
+from clio_tools.rules.printed import is_as_printed, sets_for_tests
 from clio_tools.why.data import Edit, Miss
 from clio_tools.why.lookup import Columns, Row
 from clio_tools.why.matches import Chosen, RuleMatches, Step, Values, steps_of
@@ -65,6 +65,20 @@ class Missing:
             misses.append(self.miss(found))
             edits.append(self.cure(found, misses[-1]))
         return tuple(misses), [one for some in edits for one in some] if all(edits) else []
+
+    def besides(self, fact: Fact, used: Iterable[int]) -> tuple[Miss, ...]:
+        """What a row that rules use misses in others that begin with it, as along an optional ref. An empty text misses
+        nothing, nor is it a miss that a test of a drawing fails.
+        """
+        row = self.source.rows(fact.table).numbers[fact.row]
+        of_tests = sets_for_tests(self.content.decode("utf-8", "replace"))
+        first: dict[tuple[object, ...], Found] = {}
+        for number in sorted(set(range(len(self.mapping.rules))).difference(used)):
+            if self.mapping.rules[number].premise[0].table == fact.table:
+                for one in self.unfound_by(number, 0, row):
+                    if any(one.texts) and self.mapping.source[one.table].name not in of_tests:
+                        first.setdefault((self.start(one), *one[2:]), one)
+        return tuple(map(self.miss, first.values()))
 
     def condition(self, number: int, fact: Fact) -> Miss:
         """A condition that a row fails."""

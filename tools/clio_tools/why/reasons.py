@@ -92,8 +92,9 @@ class Reasons:
                 if most is None or len(made) <= most:
                     self.add_made(rule, texts, made)
         misses, edits = self.missing.all_misses(fact) if not rules else ((), ())
+        besides = self.missing.besides(fact, rules) if rules else ()
         told, by_rule = tuple(made.values())[:most], tuple(sorted(rules.items()))
-        return SourceReason(row, told, len(told) < len(made), rules.total(), by_rule, misses, edits)
+        return SourceReason(row, told, len(told) < len(made), rules.total(), by_rule, misses, edits, besides)
 
     def add_made(self, rule: int, texts: Row, made: dict[tuple[int, Row], Made]) -> None:
         """The rows of the target that a match asks for."""

@@ -116,6 +116,10 @@ class Words:
                 yield f"  {visible(one.set)}: {self.row(one.columns, one.row)} (rule {one.rule}, place {one.place:,})"
             if reason.more:
                 yield "  and more"
+            if reason.besides:
+                yield "it misses:"
+            for miss in reason.besides:
+                yield from self.of_miss(miss)
             yield from self.of_rules(rule for rule, _ in reason.rules)
             return
         yield "no rule uses it:"
