@@ -48,7 +48,7 @@ use Rattle.dx_rules.proofs.ClosedRules.{rules_are_closed}
 use Rattle.dx_rules.proofs.FittingRules.{rules_fit}
 use Rattle.dx_model.specs.Fitting.{RuleFits}
 use Rattle.dx_funcs.specs.Offers.{IsListed}
-use Rattle.dx_rule_text.specs.Printed.{AreAtomsOf}
+use Rattle.dx_rule_text.specs.Printed.{AtomsWithin}
 use Rattle.dx_stages.specs.Worlds.{World}
 use Rattle.dx_stages.specs.Stages.{Stage, next, checking}
 use Rattle.dx_stages.specs.Running.{Answers}
@@ -58,7 +58,7 @@ use Rattle.dx_implies.specs.Pruning.{IsPrunedAlways, PruningPassesLimit}
 use Rattle.dx_implies.proofs.Pruned.{left_implies}
 use Rattle.clio_accept.specs.Mapping.{SourceRefused, TargetRefused, NameRefused, LinesRefused, NamingRefused, TestingRefused, WritingRefused}
 use Rattle.clio_accept.specs.Mapping.{LimitRefused, RulesRefused, FrozenRefused, frozen_cells}
-use Rattle.clio_accept.specs.Mapping.{NoneReserved, AreRulesOf, rules_of_lines, limit_of, written_of}
+use Rattle.clio_accept.specs.Mapping.{NoneReserved, RulesOfLines, rules_of_lines, limit_of, written_of}
 use Rattle.clio_accept.specs.Accepting.{between_of, limits, naming, conditions_stage, writing, closing, leaving, accepting, accepting_said}
 use Rattle.clio_accept.specs.Accepting.{frozen_count, pruning, said_rules, taking, target_names, target_sets}
 use Rattle.clio_accept.specs.Laws.{AcceptedFits, AcceptedNamesAreFree, MappingFits}
@@ -84,7 +84,7 @@ tables_there f t r u o m =
     omega (arith, here_it, same)
 
 -- its atoms too
-atoms_there : (f : Forest) (g : ℕ → Cell) (os : List Occurrence) → Each os (λ o. o.table < length (tables_of f)) → AreAtomsOf f (map (atom_by g) os)
+atoms_there : (f : Forest) (g : ℕ → Cell) (os : List Occurrence) → Each os (λ o. o.table < length (tables_of f)) → AtomsWithin f (map (atom_by g) os)
 atoms_there f g os h a m =
     let o = from_map (atom_by g) os m in
     subst (λ x. x.table < length (tables_of f)) o.2 (h o.0 o.1)
@@ -177,18 +177,18 @@ each_fits list m a d i =
     (few_variables m.source m.target k.0.source k.0.target (source_of m k.0) (target_of m k.0) a.source a.target v.few_source v.few_target v.source_variant v.target_variant)
     (lines_fit m.source m.target list m.lines lines refl a.named) k.1.picks)
 
-each_premise : (list : List Conversion) (m : MappingText) → IsRead list m → Each (rules_of_lines list m.source m.target m.lines) (λ d. AreAtomsOf m.source d.premise)
+each_premise : (list : List Conversion) (m : MappingText) → IsRead list m → Each (rules_of_lines list m.source m.target m.lines) (λ d. AtomsWithin m.source d.premise)
 each_premise list m a d i =
     let k = from_kept (lines_of m.source m.target list m.lines) (model_tables m.source) (model_tables m.target) d i in
     let v = are_variants list m k.0 a k.1 in
-    subst (λ (e : Rule). AreAtomsOf m.source e.premise) k.2
+    subst (λ (e : Rule). AtomsWithin m.source e.premise) k.2
     (atoms_there m.source cells.Var (source_of m k.0).occurrences (tables_there m.source k.0.source (source_of m k.0) v.source_variant))
 
-each_conclusion : (list : List Conversion) (m : MappingText) → IsRead list m → Each (rules_of_lines list m.source m.target m.lines) (λ d. AreAtomsOf m.target d.conclusion)
+each_conclusion : (list : List Conversion) (m : MappingText) → IsRead list m → Each (rules_of_lines list m.source m.target m.lines) (λ d. AtomsWithin m.target d.conclusion)
 each_conclusion list m a d i =
     let k = from_kept (lines_of m.source m.target list m.lines) (model_tables m.source) (model_tables m.target) d i in
     let v = are_variants list m k.0 a k.1 in
-    subst (λ (e : Rule). AreAtomsOf m.target e.conclusion) k.2
+    subst (λ (e : Rule). AtomsWithin m.target e.conclusion) k.2
     (atoms_there m.target _ (target_of m k.0).occurrences (tables_there m.target k.0.target (target_of m k.0) v.target_variant))
 
 each_listed : (list : List Conversion) (m : MappingText) → IsRead list m → Each (rules_of_lines list m.source m.target m.lines) (λ d. Each d.derived (λ e. IsListed list e.code (length e.args)))
@@ -207,11 +207,11 @@ written_fits list m a narrow = all_fit m.source m.target list m.rules (written_o
 record IsGood (list : List Conversion) (m : MappingText) (e : Rule) : Type 0 where
   fits : RuleFits (model_tables m.source) (model_tables m.target) e
   closed : IsClosed (model_tables m.target) e
-  premise : AreAtomsOf m.source e.premise
-  conclusion : AreAtomsOf m.target e.conclusion
+  premise : AtomsWithin m.source e.premise
+  conclusion : AtomsWithin m.target e.conclusion
   listed : Each e.derived (λ d. IsListed list d.code (length d.args))
 
-closed_good : (list : List Conversion) (m : MappingText) (R : List Rule) → IsRead list m → Each m.rules RuleHasFewCells → (r : AreRulesOf list m.source m.target m.lines m.rules R) → Each r.closed (IsGood list m)
+closed_good : (list : List Conversion) (m : MappingText) (R : List Rule) → IsRead list m → Each m.rules RuleHasFewCells → (r : RulesOfLines list m.source m.target m.lines m.rules R) → Each r.closed (IsGood list m)
 closed_good list m R a narrow r e i =
     let d = closed_of (model_tables m.target) (written_of list m.source m.target m.rules) r.closed r.closings e i in
     let fit = written_fits list m a narrow d.0 d.1 in
@@ -233,7 +233,7 @@ kept_good list m a e i = record {
   listed = each_listed list m a e i;
 }
 
-all_good : (list : List Conversion) (m : MappingText) (R : List Rule) → IsRead list m → Each m.rules RuleHasFewCells → AreRulesOf list m.source m.target m.lines m.rules R → Each R (IsGood list m)
+all_good : (list : List Conversion) (m : MappingText) (R : List Rule) → IsRead list m → Each m.rules RuleHasFewCells → RulesOfLines list m.source m.target m.lines m.rules R → Each R (IsGood list m)
 all_good list m R a narrow r e i = elim (from_append (rules_of_lines list m.source m.target m.lines) (subst (λ rs. e ∈ rs) r.are i)) [
   | inl k ↦ kept_good list m a e k
   | inr k ↦ closed_good list m R a narrow r e k
@@ -241,7 +241,7 @@ all_good list m R a narrow r e i = elim (from_append (rules_of_lines list m.sour
 
 -- the rules of lines and the closed hand-written ones fit
 pub all_rules_fit : (list : List Conversion) (m : MappingText) (R : List Rule) → IsRead list m → Each m.rules RuleHasFewCells
-    → AreRulesOf list m.source m.target m.lines m.rules R → Each R (RuleFits (model_tables m.source) (model_tables m.target))
+    → RulesOfLines list m.source m.target m.lines m.rules R → Each R (RuleFits (model_tables m.source) (model_tables m.target))
 all_rules_fit list m R a narrow r e i = (all_good list m R a narrow r e i).fits
 
 -- ---- what the stages have checked
@@ -256,7 +256,7 @@ pub record IsTaken (list : List Conversion) (tests : List RowTest) (m : MappingT
   pub limits : limit_of list m.source m.target m.lines ≡ None
   pub written : rules_fault m.source m.target list m.rules ≡ None
   pub all : List Rule
-  pub are : AreRulesOf list m.source m.target m.lines m.rules all
+  pub are : RulesOfLines list m.source m.target m.lines m.rules all
   pub few : length all ≤ 256
   pub within : ¬ (PruningPassesLimit frozen_cells all)
   pub left : IsPrunedAlways all P

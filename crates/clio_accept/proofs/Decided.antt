@@ -35,7 +35,7 @@ use Rattle.dx_stages.proofs.Decided.{Any, next_one, next_decided, checking_one, 
 use Rattle.clio_accept.specs.declared.fault.AcceptFault.{AcceptFault}
 use Rattle.clio_accept.specs.declared.fault.AcceptFault.TheVariants as faults
 use Rattle.clio_accept.specs.declared.fault.MapFault.TheVariants as map_faults
-use Rattle.clio_accept.specs.Mapping.{IsReserved, NoneReserved, IsFirstReserved, AreRulesOf, TooWide, rules_of_lines, written_of, limit_of, text_refusal, source_sets_refusal, target_refusal}
+use Rattle.clio_accept.specs.Mapping.{IsReserved, NoneReserved, IsFirstReserved, RulesOfLines, TooWide, rules_of_lines, written_of, limit_of, text_refusal, source_sets_refusal, target_refusal}
 use Rattle.clio_accept.specs.Mapping.{SourceRefused, TargetRefused, NameRefused, LinesRefused, NamingRefused, TestingRefused, WritingRefused}
 use Rattle.clio_accept.specs.Mapping.{LimitRefused, WidthRefused, RulesRefused, FrozenRefused, frozen_cells}
 use Rattle.clio_accept.proofs.Closed.{one_closed, never_closed, closed_or_wide}
@@ -227,12 +227,12 @@ writing_decided list = check (λ b. WritingRefused list b.source b.target b.by_h
 
 closing_decided : (list : List Conversion) → IsDecided Same Any (closing list)
 closing_decided list =
-    notions_decided Same Any (λ b. WidthRefused (model_tables b.target) (written_of list b.source b.target b.by_hand)) (λ b. AreRulesOf list b.source b.target b.lines b.by_hand)
+    notions_decided Same Any (λ b. WidthRefused (model_tables b.target) (written_of list b.source b.target b.by_hand)) (λ b. RulesOfLines list b.source b.target b.lines b.by_hand)
     (λ b e f g p q. p.3 ∙ sym q.3)
     (λ b R e g a. never_closed (model_tables b.target) (written_of list b.source b.target b.by_hand) a.closed e a.closings)
     (λ b g. either b)
   where
-    either : (b : TextsBetween) → ((R : List Rule) × AreRulesOf list b.source b.target b.lines b.by_hand R) ⊎ ((e : AcceptFault) × WidthRefused (model_tables b.target) (written_of list b.source b.target b.by_hand) e)
+    either : (b : TextsBetween) → ((R : List Rule) × RulesOfLines list b.source b.target b.lines b.by_hand R) ⊎ ((e : AcceptFault) × WidthRefused (model_tables b.target) (written_of list b.source b.target b.by_hand) e)
     either b = elim (closed_or_wide (model_tables b.target) (written_of list b.source b.target b.by_hand)) [
       | inl r ↦ inl (rules_of_lines list b.source b.target b.lines ++ r.0, record { closed = r.0; closings = r.1; are = refl })
       | inr w ↦ inr (TooWide, (w.0, w.1, w.2, refl))

@@ -20,7 +20,7 @@ use Rattle.dx_tgd.specs.declared.fault.CanonFault.TheVariants as canon_faults
 use Rattle.clio_accept.specs.declared.fault.AcceptFault.{AcceptFault}
 use Rattle.clio_accept.specs.declared.fault.AcceptFault.TheVariants.{Limit, Mapping, Memory}
 use Rattle.clio_accept.specs.declared.fault.MapFault.TheVariants.{Reserved, Source, Target, Text}
-use Rattle.clio_accept.specs.Mapping.{AreRulesOf, frozen_refusal, IsFirstReserved, IsReserved, limit_refusal}
+use Rattle.clio_accept.specs.Mapping.{RulesOfLines, frozen_refusal, IsFirstReserved, IsReserved, limit_refusal}
 use Rattle.clio_accept.specs.Mapping.{LinesRefused, NameRefused}
 use Rattle.clio_accept.specs.Mapping.{NoneReserved, RulesRefused, source_sets_refusal, target_refusal, text_refusal}
 
@@ -201,7 +201,7 @@ closed_by_hand =
     } ∷ []
 
 -- the rules of the lines come first, then the closed rules of hand in their order
-lines_first : AreRulesOf [] emps units (into_units ∷ []) by_hand
+lines_first : RulesOfLines [] emps units (into_units ∷ []) by_hand
     (record {
       premise = record { table = 0; cells = Var 0 ∷ [] } ∷ [];
       derived = [];

@@ -21,7 +21,7 @@ use Rattle.dx_tgd.specs.declared.fault.CanonFault.{CanonFault}
 use Rattle.dx_tgd.specs.declared.fault.CanonFault.TheVariants as canon_faults
 use Rattle.dx_implies.specs.Frozen.{IsFrozenRefusal}
 use Rattle.dx_implies.specs.Pruning.{IsPrunedAlways, PruningPassesLimit}
-use Rattle.clio_accept.specs.Mapping.{AreClosings, AreRulesOf, LinesRefused, WidthRefused, frozen_cells, frozen_refusal, limit_of, limit_refusal}
+use Rattle.clio_accept.specs.Mapping.{AreClosings, RulesOfLines, LinesRefused, WidthRefused, frozen_cells, frozen_refusal, limit_of, limit_refusal}
 use Rattle.clio_accept.specs.Mapping.{rules_of_lines, text_refusal, written_of}
 use Rattle.clio_accept.specs.Accepting.{TextsBetween, leaving, mapping_of}
 
@@ -48,21 +48,21 @@ writing_stops list tests b f few named tested (inl is) = inl (ap text_refusal is
 writing_stops list tests b f few named tested (inr h) = inr (λ c. inr (b, (few, refl), inr (b, (named, refl), inr (b, (tested, refl), inl (f, h, refl)))))
 
 -- what is known of lines, conditions and hand-written rules without a fault
-pub record AreRead (list : List Conversion) (tests : List RowTest) (b : TextsBetween) : Type 0 where
+pub record MarksRead (list : List Conversion) (tests : List RowTest) (b : TextsBetween) : Type 0 where
   pub few : length b.lines + length b.conditions ≤ 512
   pub named : lines_fault b.source b.target list b.lines ≡ None
   pub tested : conditions_fault b.source tests b.conditions ≡ None
   pub written : rules_fault b.source b.target list b.by_hand ≡ None
 
 -- the lines pass a limit
-pub limit_stops : (list : List Conversion) (tests : List RowTest) (b : TextsBetween) (f : CandFault) → AreRead list tests b
+pub limit_stops : (list : List Conversion) (tests : List RowTest) (b : TextsBetween) (f : CandFault) → MarksRead list tests b
     → (f ≡ cand_faults.Memory) ⊎ ((l : Limit) × (limit_of list b.source b.target b.lines ≡ Some l) × (f ≡ cand_faults.TooMany l)) → Answers faults.Memory (mapping_of list tests) b (Err (limit_refusal f))
 limit_stops list tests b f r (inl is) = inl (ap limit_refusal is)
 limit_stops list tests b f r (inr (l, h, is)) =
     inr (λ c. inr (b, (r.few, refl), inr (b, (r.named, refl), inr (b, (r.tested, refl), inr (b, (r.written, refl), inl (l, h, ap limit_refusal is))))))
 
 -- a hand-written rule is too wide
-pub width_stops : (list : List Conversion) (tests : List RowTest) (b : TextsBetween) (written : List Rule) (e : AcceptFault) → AreRead list tests b → limit_of list b.source b.target b.lines ≡ None → written ≡ written_of list b.source b.target b.by_hand
+pub width_stops : (list : List Conversion) (tests : List RowTest) (b : TextsBetween) (written : List Rule) (e : AcceptFault) → MarksRead list tests b → limit_of list b.source b.target b.lines ≡ None → written ≡ written_of list b.source b.target b.by_hand
     → (e ≡ faults.Memory) ⊎ WidthRefused (model_tables b.target) written e → Answers faults.Memory (mapping_of list tests) b (Err e)
 width_stops list tests b written e r limits are (inl is) = inl is
 width_stops list tests b written e r limits are (inr h) =
@@ -70,7 +70,7 @@ width_stops list tests b written e r limits are (inr h) =
 
 -- all rules, of which those of lines stand in front
 pub all_rules : (list : List Conversion) (b : TextsBetween) (written kept closed R : List Rule) → written ≡ written_of list b.source b.target b.by_hand → kept ≡ rules_of_lines list b.source b.target b.lines
-    → AreClosings (model_tables b.target) written closed → R ≡ kept ++ closed → AreRulesOf list b.source b.target b.lines b.by_hand R
+    → AreClosings (model_tables b.target) written closed → R ≡ kept ++ closed → RulesOfLines list b.source b.target b.lines b.by_hand R
 all_rules list b written kept closed R are is closings both = record {
   closed = closed;
   closings = subst (λ ds. AreClosings (model_tables b.target) ds closed) are closings;
@@ -78,14 +78,14 @@ all_rules list b written kept closed R are is closings both = record {
 }
 
 -- the answer on the rules is an error, and so is that on the mapping
-pub leaving_stops : (list : List Conversion) (tests : List RowTest) (b : TextsBetween) (R : List Rule) (e : AcceptFault) → AreRead list tests b → limit_of list b.source b.target b.lines ≡ None
-    → AreRulesOf list b.source b.target b.lines b.by_hand R → Answers faults.Memory leaving R (Err e) → Answers faults.Memory (mapping_of list tests) b (Err e)
+pub leaving_stops : (list : List Conversion) (tests : List RowTest) (b : TextsBetween) (R : List Rule) (e : AcceptFault) → MarksRead list tests b → limit_of list b.source b.target b.lines ≡ None
+    → RulesOfLines list b.source b.target b.lines b.by_hand R → Answers faults.Memory leaving R (Err e) → Answers faults.Memory (mapping_of list tests) b (Err e)
 leaving_stops list tests b R e r limits are (inl is) = inl is
 leaving_stops list tests b R e r limits are (inr h) =
     inr (λ c. inr (b, (r.few, refl), inr (b, (r.named, refl), inr (b, (r.tested, refl), inr (b, (r.written, refl), inr (b, (limits, refl), inr (R, are, h c)))))))
 
 -- the pruned rules are taken
-pub rules_taken : (list : List Conversion) (tests : List RowTest) (b : TextsBetween) (R P : List Rule) (conditions : List Condition) → AreRead list tests b → limit_of list b.source b.target b.lines ≡ None → AreRulesOf list b.source b.target b.lines b.by_hand R
+pub rules_taken : (list : List Conversion) (tests : List RowTest) (b : TextsBetween) (R P : List Rule) (conditions : List Condition) → MarksRead list tests b → limit_of list b.source b.target b.lines ≡ None → RulesOfLines list b.source b.target b.lines b.by_hand R
     → Answers faults.Memory leaving R (Ok P) → conditions ≡ conditions_of b.source tests b.conditions
     → Answers faults.Memory (mapping_of list tests) b (Ok (record { source = b.source; target = b.target; conditions = conditions; rules = P }))
 rules_taken list tests b R P conditions r limits are left read =

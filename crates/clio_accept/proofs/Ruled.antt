@@ -28,10 +28,10 @@ use Rattle.dx_closing.proofs.Growth.{closing_keeps}
 use Rattle.dx_tgd_text.specs.Numbering.{text_cells}
 use Rattle.dx_tgd_text.specs.Reading.{RuleHasFewCells, atom_fault, atom_of_text, atoms_fault, derived_faults, derived_of_text, fresh_of, known_of, rule_fault, rule_of_text, names_of_premise}
 use Rattle.dx_tgd_text.proofs.Fits.{read_rules_fit}
-use Rattle.clio_accept.specs.Mapping.{AreRulesOf, IsNarrowClosing, limit_of, rules_of_lines, written_of}
+use Rattle.clio_accept.specs.Mapping.{RulesOfLines, IsNarrowClosing, limit_of, rules_of_lines, written_of}
 use Rattle.clio_accept.specs.Accepting.{IsBetweenSchemas, TextsBetween}
 use Rattle.clio_accept.proofs.Accepted.{IsRead, all_rules_fit, each_fits}
-use Rattle.clio_accept.proofs.LineRules.{AreRead}
+use Rattle.clio_accept.proofs.LineRules.{MarksRead}
 use Rattle.clio_accept.proofs.Closed.{closed_fits, closed_of}
 
 -- a table has at most 64 columns, and what is none has none
@@ -82,7 +82,7 @@ narrow source target list r e ok fine h n none =
     omega (arith, p, q, lp, lq, ld, d, longer, few, short)
 
 -- the rules of a text that is read are rules, if they have no derived variables
-pub are_rules : (list : List Conversion) (m : MappingText) (R : List Rule) → IsRead list m → AreRulesOf list m.source m.target m.lines m.rules R → Each (underived R) IsRule
+pub are_rules : (list : List Conversion) (m : MappingText) (R : List Rule) → IsRead list m → RulesOfLines list m.source m.target m.lines m.rules R → Each (underived R) IsRule
 are_rules list m R a r e i =
     let w = from_filter (λ (d : Rule). are_none d.derived) R i in
     elim (from_append (rules_of_lines list m.source m.target m.lines) (subst (λ rs. e ∈ rs) r.are w.0)) [
@@ -106,8 +106,8 @@ abbrev pub saying_all : TextsBetween → MappingText
 saying_all b = record { version = 2; source = b.source; target = b.target; lines = b.lines; conditions = b.conditions; rules = b.by_hand }
 
 -- the rules of lines and the closed hand-written ones fit
-pub between_fit : (list : List Conversion) (tests : List RowTest) (b : TextsBetween) (R : List Rule) → IsBetweenSchemas b → AreRead list tests b → limit_of list b.source b.target b.lines ≡ None
-    → AreRulesOf list b.source b.target b.lines b.by_hand R → Each R (RuleFits (model_tables b.source) (model_tables b.target))
+pub between_fit : (list : List Conversion) (tests : List RowTest) (b : TextsBetween) (R : List Rule) → IsBetweenSchemas b → MarksRead list tests b → limit_of list b.source b.target b.lines ≡ None
+    → RulesOfLines list b.source b.target b.lines b.by_hand R → Each R (RuleFits (model_tables b.source) (model_tables b.target))
 between_fit list tests b R ready r limits are =
     all_rules_fit list (saying_all b) R
     (record { source = ready.source; target = ready.target; named = r.named; limits = limits; written = r.written; whole = ready.whole }) ready.narrow are

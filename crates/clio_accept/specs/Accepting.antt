@@ -25,7 +25,7 @@ use Rattle.clio_accept.specs.declared.fault.AcceptFault.{AcceptFault}
 use Rattle.clio_accept.specs.Mapping.{SourceRefused, TargetRefused, NameRefused, LinesRefused}
 use Rattle.clio_accept.specs.Mapping.{NamingRefused, TestingRefused, WritingRefused}
 use Rattle.clio_accept.specs.Mapping.{LimitRefused, WidthRefused, RulesRefused, FrozenRefused, frozen_cells}
-use Rattle.clio_accept.specs.Mapping.{NoneReserved, AreRulesOf, written_of, limit_of, text_refusal}
+use Rattle.clio_accept.specs.Mapping.{NoneReserved, RulesOfLines, written_of, limit_of, text_refusal}
 
 -- ---- rules
 
@@ -81,7 +81,7 @@ limits list =
 abbrev pub closing : List Conversion → Stage AcceptFault TextsBetween (List Rule)
 closing list =
     notions (λ b. WidthRefused (model_tables b.target) (written_of list b.source b.target b.by_hand))
-    (λ b. AreRulesOf list b.source b.target b.lines b.by_hand)
+    (λ b. RulesOfLines list b.source b.target b.lines b.by_hand)
 
 -- not too many rules
 abbrev pub rule_count : Stage AcceptFault (List Rule) (List Rule)

@@ -14,7 +14,7 @@ use Rattle.dx_funcs.specs.Offers.{IsListed}
 use Rattle.dx_schema_text.specs.Print.{HaveWordNames}
 use Rattle.dx_lines.specs.Limits.{IsSchemaColumn}
 use Rattle.dx_line_text.specs.Conditions.{ConditionIsListed}
-use Rattle.dx_rule_text.specs.Printed.{AreAtomsOf}
+use Rattle.dx_rule_text.specs.Printed.{AtomsWithin}
 use Rattle.clio_accept.specs.declared.mapping.Mapping.{Mapping}
 use Rattle.clio_accept.specs.Accepting.{accepting}
 use Rattle.clio_accept.specs.Mapping.{NoneReserved}
@@ -32,8 +32,8 @@ pub record MappingFits (list : List Conversion) (tests : List RowTest) (M : Mapp
   pub few : length M.rules ≤ RULES
   pub fit : Each M.rules (RuleFits (model_tables M.source) (model_tables M.target))
   pub closed : Each M.rules (IsClosed (model_tables M.target))
-  pub premises : Each M.rules (λ d. AreAtomsOf M.source d.premise)
-  pub conclusions : Each M.rules (λ d. AreAtomsOf M.target d.conclusion)
+  pub premises : Each M.rules (λ d. AtomsWithin M.source d.premise)
+  pub conclusions : Each M.rules (λ d. AtomsWithin M.target d.conclusion)
   pub listed : Each M.rules (λ d. Each d.derived (λ e. IsListed list e.code (length e.args)))
 
 -- a text has at most one mapping

@@ -117,7 +117,7 @@ IsTooWide schema d =
     (OCCURRENCES < length d.premise) ⊎ ((E : List Atom) → IsClosing schema d.conclusion E → OCCURRENCES < length E)
 
 -- the rules of lines, and after them the closed hand-written rules
-pub record AreRulesOf (list : List Conversion) (source target : Forest) (lines : List LineText)
+pub record RulesOfLines (list : List Conversion) (source target : Forest) (lines : List LineText)
     (by_hand : List RuleText) (R : List Rule) : Type 0 where
   pub closed : List Rule
   pub closings : AreClosings (model_tables target) (written_of list source target by_hand) closed

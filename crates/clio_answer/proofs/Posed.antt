@@ -33,7 +33,7 @@ use Rattle.clio_steps.specs.declared.texts.Side.TheVariants.{First}
 use Rattle.clio_steps.specs.Steps.{Program, exchange_input, mapping_stages, named_stage, wanted}
 use Rattle.clio_answer.specs.Answering.{AreAnswers, QueryAndExchange, PassAnswerCells, MappingAndQuery, answer_cells, answer_stages, answered_plan, answers, with_source_rows, listed_answers, query_answers, query_rows, query_target, query_stages}
 use Rattle.clio_steps.proofs.Mappings.{is_small}
-use Rattle.clio_steps.proofs.Decided.{AreReady, target_decided, text_decided, text_one}
+use Rattle.clio_steps.proofs.Decided.{PairReady, target_decided, text_decided, text_one}
 use Rattle.clio_answer.proofs.Queried.{query_decided, query_fits, query_one}
 
 -- ---- a stage that refuses all that another may pass alike
@@ -97,8 +97,8 @@ pub record IsPosed (P : Program) (p : MappingAndQuery) : Type 0 where
 FitsList : Program → Mapping → Type 0
 FitsList P M = MappingFits P.list P.tests M
 
-AreFilled : Program → MappingAndQuery × List TableRows → Type 0
-AreFilled P p = IsPosed P p.0
+BlocksFilled : Program → MappingAndQuery × List TableRows → Type 0
+BlocksFilled P p = IsPosed P p.0
 
 AreAsked : Program → MappingAndQuery × Exchange → Type 0
 AreAsked P p = IsPosed P p.0
@@ -107,12 +107,12 @@ query_leads : (P : Program) → Leads (FitsList P) (IsPosed P) query_stages
 unfolding FitsList
 query_leads P c M p fits (q, passed, is) = subst (IsPosed P) (sym is) (record { mapping = fits; query = query_fits c M q passed })
 
-rows_leads : (P : Program) → Leads (IsPosed P) (AreFilled P) (query_rows P)
-unfolding AreFilled
+rows_leads : (P : Program) → Leads (IsPosed P) (BlocksFilled P) (query_rows P)
+unfolding BlocksFilled
 rows_leads P c p q h (I, source, is) = subst (λ (r : MappingAndQuery × List TableRows). IsPosed P r.0) (sym is) h
 
-target_leads : (P : Program) → Leads (AreFilled P) (AreAsked P) (query_target P)
-unfolding AreFilled AreAsked
+target_leads : (P : Program) → Leads (BlocksFilled P) (AreAsked P) (query_target P)
+unfolding BlocksFilled AreAsked
 target_leads P c p q h (e, exchange, is) = subst (λ (r : MappingAndQuery × Exchange). IsPosed P r.0) (sym is) h
 
 -- ---- the rows and the exchange
@@ -137,11 +137,11 @@ rows_decided P =
 with_exchange : MappingAndQuery × List TableRows → Exchange → MappingAndQuery × Exchange
 with_exchange p e = (p.0, e)
 
-exchanged_decided : (P : Program) → IsDecided AreAlike (AreFilled P) (query_target P)
-unfolding AreFilled AreReady with_exchange
+exchanged_decided : (P : Program) → IsDecided AreAlike (BlocksFilled P) (query_target P)
+unfolding BlocksFilled PairReady with_exchange
 exchanged_decided P =
-    into_decided AreAlike (AreFilled P) with_exchange (over with_source_rows (by (named_stage P.apply Plain)))
-    (over_decided AreAlike (AreFilled P) (AreReady P) with_source_rows (by (named_stage P.apply Plain)) (λ p h. h.mapping) (target_decided P Plain))
+    into_decided AreAlike (BlocksFilled P) with_exchange (over with_source_rows (by (named_stage P.apply Plain)))
+    (over_decided AreAlike (BlocksFilled P) (PairReady P) with_source_rows (by (named_stage P.apply Plain)) (λ p h. h.mapping) (target_decided P Plain))
 
 -- ---- the answers on each universal target
 
@@ -163,7 +163,7 @@ its_target : (P : Program) (c : World) (p : MappingAndQuery × List TableRows) (
 its_target P c p b (e, exchange, is) =
     (ap (λ (r : MappingAndQuery × Exchange). r.0) is, subst (IsExchange P.apply (exchange_input Plain (with_source_rows p))) (sym (ap (λ (r : MappingAndQuery × Exchange). r.1) is)) exchange)
 
-refused_alike : (P : Program) (c : World) (p : MappingAndQuery × List TableRows) (b d : MappingAndQuery × Exchange) (e : Refusal) → AreFilled P p → (query_target P).passes c p b → (query_target P).passes c p d
+refused_alike : (P : Program) (c : World) (p : MappingAndQuery × List TableRows) (b d : MappingAndQuery × Exchange) (e : Refusal) → BlocksFilled P p → (query_target P).passes c p b → (query_target P).passes c p d
     → query_answers.refuses c d e → query_answers.refuses c b e
 refused_alike P c p b d e h x y (passes, is) =
     let s = its_target P c p b x in
@@ -186,8 +186,8 @@ all_decided P =
     next_decided AreAlike Any (FitsList P) (mapping_stages P) (next query_stages (next (query_rows P) (next (query_target P) query_answers))) (text_one P First)
     (λ c a M g p. accepted_fits P.list P.tests c p.0 M (is_small p.0 p.1.1) p.2) (text_decided P First)
     (next_decided AreAlike (FitsList P) (IsPosed P) query_stages (next (query_rows P) (next (query_target P) query_answers)) query_one (query_leads P) (query_decided (FitsList P))
-    (next_decided AreAlike (IsPosed P) (AreFilled P) (query_rows P) (next (query_target P) query_answers) (rows_one P) (rows_leads P) (rows_decided P)
-    (next_decided_alike AreAlike (AreFilled P) (AreAsked P) (query_target P) query_answers (refused_alike P) (target_leads P) (exchanged_decided P) (answers_decided P))))
+    (next_decided AreAlike (IsPosed P) (BlocksFilled P) (query_rows P) (next (query_target P) query_answers) (rows_one P) (rows_leads P) (rows_decided P)
+    (next_decided_alike AreAlike (BlocksFilled P) (AreAsked P) (query_target P) query_answers (refused_alike P) (target_leads P) (exchanged_decided P) (answers_decided P))))
 
 pub answer_decided : (P : Program) → IsDecided AreAlike Any (answer_stages P)
 answer_decided P = into_decided AreAlike Any (λ (u : Unit {0}) (q : MappingAndQuery × Answers). answered_plan q) (answers P) (all_decided P)

@@ -8,7 +8,7 @@ use Rattle.clio_ending.specs.declared.ending.Refusal.{Refusal}
 use Rattle.clio_ending.specs.declared.ending.Refusal.TheVariants as refusals
 use Rattle.clio_ending.specs.declared.faults.OtherFault.{OtherFault}
 use Rattle.clio_ending.specs.declared.faults.OtherFault.TheVariants as other_faults
-use Rattle.clio_compare.specs.Comparing.{AreFree, ArePlain, HasDerived, HaveConditions, IsFirstDerived}
+use Rattle.clio_compare.specs.Comparing.{BothUnconditional, NoneDerived, HasDerived, HaveConditions, IsFirstDerived}
 
 abbrev empty : Mapping
 empty = record { source = none; target = none; conditions = []; rules = [] }
@@ -19,13 +19,13 @@ abbrev conditioned : Mapping
 conditioned =
     record { source = none; target = none; conditions = (record { place = record { table = 0; column = 0 }; code = 0 }) ∷ []; rules = [] }
 
-neither_has_a_condition : AreFree (empty, empty)
+neither_has_a_condition : BothUnconditional (empty, empty)
 neither_has_a_condition = (refl, refl)
 
-the_first_has_one : ¬ (AreFree (conditioned, empty))
+the_first_has_one : ¬ (BothUnconditional (conditioned, empty))
 the_first_has_one h = absurd (cc h.0)
 
-the_second_has_one : ¬ (AreFree (empty, conditioned))
+the_second_has_one : ¬ (BothUnconditional (empty, conditioned))
 the_second_has_one h = absurd (cc h.1)
 
 -- it is refused as one of other conditions
@@ -43,14 +43,14 @@ copies = record { premise = []; derived = []; conclusion = [] }
 abbrev converting : Mapping
 converting = record { source = none; target = none; conditions = []; rules = copies ∷ converts ∷ [] }
 
-no_rule : ArePlain []
+no_rule : NoneDerived []
 no_rule d m = elim m [ ]
 
 -- the second of two rules is the first that has one
 second_rule : IsFirstDerived (copies ∷ converts ∷ []) 1
 second_rule = record { rule = converts; is = refl; some = λ h. absurd (cc h); before = first }
   where
-    first : ArePlain (copies ∷ [])
+    first : NoneDerived (copies ∷ [])
     first d (here e) = ap (λ (r : Rule). r.derived) (sym e)
     first d (there m) = elim m [ ]
 

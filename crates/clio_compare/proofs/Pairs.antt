@@ -51,7 +51,7 @@ use Rattle.clio_ending.specs.Ending.{AreAlike}
 use Rattle.clio_steps.specs.declared.texts.Side.TheVariants.{First, Second}
 use Rattle.clio_steps.specs.Outcomes.{AcceptedIn}
 use Rattle.clio_steps.specs.Steps.{Program, mapping_stages, text_name, text_stages}
-use Rattle.clio_compare.specs.Comparing.{AreBothPlain, AreFree, ArePlain, AreReady, Differ, HasDerived, HaveConditions, HaveSameSets, IsComparedPlan, IsComparisonOf, IsFirstDerived, Pair, PassesFrozenLimit, comparable, compare_stages, compared_rules, comparing, comparisons, no_conditions, no_derived, other_stages, same_sets}
+use Rattle.clio_compare.specs.Comparing.{BothPlain, BothUnconditional, NoneDerived, PairReady, Differ, HasDerived, HaveConditions, HaveSameSets, IsComparedPlan, IsComparisonOf, IsFirstDerived, Pair, PassesFrozenLimit, comparable, compare_stages, compared_rules, comparing, comparisons, no_conditions, no_derived, other_stages, same_sets}
 use Rattle.clio_accept.specs.Mapping.{frozen_cells}
 use Rattle.clio_steps.proofs.Mappings.{is_small}
 use Rattle.clio_steps.proofs.Names.{text_asks}
@@ -88,29 +88,29 @@ texts_apart P =
 pub sets_refuse : (p : Pair) (c : World) → ¬ (HaveSameSets p) → comparable.refuses c p (refusals.Other other_faults.Schemas)
 sets_refuse p c n = inl (n, refl)
 
-pub conditions_refuse : (p : Pair) (c : World) → HaveSameSets p → ¬ (AreFree p) → comparable.refuses c p (refusals.Other other_faults.Conditions)
+pub conditions_refuse : (p : Pair) (c : World) → HaveSameSets p → ¬ (BothUnconditional p) → comparable.refuses c p (refusals.Other other_faults.Conditions)
 conditions_refuse p c same n = inr (p, (same, refl), inl (n, refl))
 
-pub derived_refuses : (p : Pair) (c : World) (e : Refusal) → HaveSameSets p → AreFree p → HasDerived p e → comparable.refuses c p e
+pub derived_refuses : (p : Pair) (c : World) (e : Refusal) → HaveSameSets p → BothUnconditional p → HasDerived p e → comparable.refuses c p e
 derived_refuses p c e same free h = inr (p, (same, refl), inr (p, (free, refl), h))
 
 -- so does a derived variable that was found
-pub derived_found : (p : Pair) (r : Option OtherFault) → HaveSameSets p → AreFree p → IfSome r (λ f. HasDerived p (refusals.Other f))
+pub derived_found : (p : Pair) (r : Option OtherFault) → HaveSameSets p → BothUnconditional p → IfSome r (λ f. HasDerived p (refusals.Other f))
     → IfSome r (λ f. (c : World) → comparable.refuses c p (refusals.Other f))
 derived_found p None same free h = tt
 derived_found p (Some f) same free h = λ c. derived_refuses p c (refusals.Other f) same free h
 
-pub all_pass : (p : Pair) (c : World) → HaveSameSets p → AreFree p → AreBothPlain p → comparable.passes c p p
+pub all_pass : (p : Pair) (c : World) → HaveSameSets p → BothUnconditional p → BothPlain p → comparable.passes c p p
 all_pass p c same free h = (p, (same, refl), (p, (free, refl), (h, refl)))
 
 -- what passes is what was given
-pub passed_sets : (p q : Pair) (c : World) → comparable.passes c p q → (q ≡ p) × HaveSameSets p × AreFree p × AreBothPlain p
+pub passed_sets : (p q : Pair) (c : World) → comparable.passes c p q → (q ≡ p) × HaveSameSets p × BothUnconditional p × BothPlain p
 passed_sets p q c (one, (same, one_is), (two, (free, two_is), (plain, q_is))) =
     let to_one : two ≡ p = two_is ∙ one_is in (
       q_is ∙ to_one,
       same,
-      subst (λ (z : Pair). AreFree z) one_is free,
-      subst (λ (z : Pair). AreBothPlain z) to_one plain,
+      subst (λ (z : Pair). BothUnconditional z) one_is free,
+      subst (λ (z : Pair). BothPlain z) to_one plain,
     )
 
 -- a pair is refused for a limit, or for what is wrong with the two
@@ -128,16 +128,16 @@ derived_some : (ds : List Derived) → 0 < length ds → ¬ (ds ≡ [])
 derived_some [] h e = absurd (omega (arith, h))
 derived_some (d ∷ ds) h e = cc
 
-pub none_before : (R : List Rule) → ArePlain (take 0 R)
+pub none_before : (R : List Rule) → NoneDerived (take 0 R)
 none_before R d m = elim m [ ]
 
-pub one_more_plain : (R : List Rule) (i : ℕ) (d : Rule) → i < length R → d ≡ get_or R i d → ArePlain (take i R) → length d.derived ≤ 0 → ArePlain (take (i + 1) R)
+pub one_more_plain : (R : List Rule) (i : ℕ) (d : Rule) → i < length R → d ≡ get_or R i d → NoneDerived (take i R) → length d.derived ≤ 0 → NoneDerived (take (i + 1) R)
 one_more_plain R i d lt is before none = each_more (λ (r : Rule). r.derived ≡ []) R i d lt is before (nil_from_length d.derived (omega arith))
 
-pub all_plain : (R : List Rule) (i : ℕ) → length R ≤ i → ArePlain (take i R) → ArePlain R
-all_plain R i h before = subst ArePlain (take_all i R h) before
+pub all_plain : (R : List Rule) (i : ℕ) → length R ≤ i → NoneDerived (take i R) → NoneDerived R
+all_plain R i h before = subst NoneDerived (take_all i R h) before
 
-pub is_first : (R : List Rule) (i : ℕ) (d : Rule) → i < length R → d ≡ get_or R i d → ArePlain (take i R) → 0 < length d.derived → IsFirstDerived R i
+pub is_first : (R : List Rule) (i : ℕ) (d : Rule) → i < length R → d ≡ get_or R i d → NoneDerived (take i R) → 0 < length d.derived → IsFirstDerived R i
 is_first R i d lt is before some = record { rule = d; is = get_at R i d lt is; some = derived_some d.derived some; before = before }
 
 -- ---- tests
@@ -149,7 +149,7 @@ conditions_none (x ∷ xs) ys h = absurd (omega (arith, h.0))
 
 -- ---- the rules
 
-pub comparable_rules : (P : Program) (p : Pair) → MappingFits P.list P.tests p.0 → MappingFits P.list P.tests p.1 → HaveSameSets p → AreBothPlain p → AreReady p
+pub comparable_rules : (P : Program) (p : Pair) → MappingFits P.list P.tests p.0 → MappingFits P.list P.tests p.1 → HaveSameSets p → BothPlain p → PairReady p
 comparable_rules P p first second same plain = record {
   rules = record {
     fit = λ d m. elim (from_append p.0.rules m) [
@@ -174,8 +174,8 @@ pub record IsMade (P : Program) (c : World) (q : Mapping × Comparison) : Type 0
   pub first_fits : MappingFits P.list P.tests first
   pub second_fits : MappingFits P.list P.tests second
   pub same : HaveSameSets (first, second)
-  pub free : AreFree (first, second)
-  pub plain : AreBothPlain (first, second)
+  pub free : BothUnconditional (first, second)
+  pub plain : BothPlain (first, second)
   pub comparison : IsComparison first.source first.target first.rules second.rules q.1
   pub is : q.0 ≡ first
 
@@ -197,8 +197,8 @@ made_in P c q (M, m, (pair, (N, n, pair_is), (tested, x, (k, (within, compared),
       first_fits = fits_in P First c M first;
       second_fits = fits_in P Second c N second;
       same = subst (λ (z : Pair). HaveSameSets z) pair_is s.1;
-      free = subst (λ (z : Pair). AreFree z) pair_is s.2;
-      plain = subst (λ (z : Pair). AreBothPlain z) pair_is s.3;
+      free = subst (λ (z : Pair). BothUnconditional z) pair_is s.2;
+      plain = subst (λ (z : Pair). BothPlain z) pair_is s.3;
       comparison = subst (λ (z : Pair). IsComparison z.0.source z.0.target z.0.rules z.1.rules k) to compared;
       is = refl;
     })
@@ -319,13 +319,13 @@ none_or_some [] = inl refl
 none_or_some (x ∷ xs) = inr (λ h. cc)
 
 -- neither has a condition, or one has
-free_or_not : (p : Pair) → AreFree p ⊎ (¬ (AreFree p))
+free_or_not : (p : Pair) → BothUnconditional p ⊎ (¬ (BothUnconditional p))
 free_or_not p = elim (none_or_some p.0.conditions) [
   | inr n ↦ inr (λ h. n h.0)
   | inl a ↦ elim (none_or_some p.1.conditions) [ inr n ↦ inr (λ h. n h.1) | inl b ↦ inl (a, b) ]
 ]
 
-first_derived_of : (R : List Rule) → ArePlain R ⊎ ((n : ℕ) × IsFirstDerived R n)
+first_derived_of : (R : List Rule) → NoneDerived R ⊎ ((n : ℕ) × IsFirstDerived R n)
 first_derived_of [] = inl (λ d m. elim m [ ])
 first_derived_of (d ∷ R) = elim (none_or_some d.derived) [
   | inr n ↦ inr (0, record { rule = d; is = refl; some = n; before = λ e m. elim m [ ] })
@@ -335,7 +335,7 @@ first_derived_of (d ∷ R) = elim (none_or_some d.derived) [
   ]
 ]
   where
-    both : (S : List Rule) → d.derived ≡ [] → ArePlain S → (e : Rule) → e ∈ (d ∷ S) → e.derived ≡ []
+    both : (S : List Rule) → d.derived ≡ [] → NoneDerived S → (e : Rule) → e ∈ (d ∷ S) → e.derived ≡ []
     both S p h e (here q) = subst (λ (r : Rule). r.derived ≡ []) q p
     both S p h e (there m) = h e m
 
@@ -347,7 +347,7 @@ same_sets_decided P =
 
 no_conditions_decided : (P : Program) → IsDecided AreAlike (AreFitting P) no_conditions
 no_conditions_decided P =
-    checking_decided AreAlike (AreFitting P) HaveConditions AreFree
+    checking_decided AreAlike (AreFitting P) HaveConditions BothUnconditional
     (λ p e f a b. inl (a.1 ∙ sym b.1)) (λ p e h r. r.0 h)
     (λ p. elim (free_or_not p) [ inl h ↦ inl h | inr n ↦ inr (refusals.Other other_faults.Conditions, (n, refl)) ])
 
@@ -367,7 +367,7 @@ derived_alike p e f (inl a) (inr b) = absurd (a.1.some (b.0 a.1.rule (get_in p.0
 derived_alike p e f (inr a) (inl b) = absurd (b.1.some (a.0 b.1.rule (get_in p.0.rules b.0 b.1.rule b.1.is)))
 derived_alike p e f (inr a) (inr b) = inl (a.1.2 ∙ (ap (λ n. refusals.Other (other_faults.Derived true n)) (one_first p.1.rules a.1.0 b.1.0 a.1.1 b.1.1) ∙ sym b.1.2))
 
-plain_or_derived : (p : Pair) → AreBothPlain p ⊎ ((e : Refusal) × HasDerived p e)
+plain_or_derived : (p : Pair) → BothPlain p ⊎ ((e : Refusal) × HasDerived p e)
 plain_or_derived p = elim (first_derived_of p.0.rules) [
   | inr w ↦ inr (refusals.Other (other_faults.Derived false w.0), inl (w.0, w.1, refl))
   | inl a ↦ elim (first_derived_of p.1.rules) [
@@ -377,20 +377,20 @@ plain_or_derived p = elim (first_derived_of p.0.rules) [
 ]
 
 no_derived_decided : (P : Program) → IsDecided AreAlike (AreFitting P) no_derived
-no_derived_decided P = checking_decided AreAlike (AreFitting P) HasDerived AreBothPlain derived_alike never plain_or_derived
+no_derived_decided P = checking_decided AreAlike (AreFitting P) HasDerived BothPlain derived_alike never plain_or_derived
   where
-    never : (p : Pair) (e : Refusal) → AreBothPlain p → ¬ (HasDerived p e)
+    never : (p : Pair) (e : Refusal) → BothPlain p → ¬ (HasDerived p e)
     never p e h (inl a) = a.1.some (h.0 a.1.rule (get_in p.0.rules a.0 a.1.rule a.1.is))
     never p e h (inr b) = b.1.1.some (h.1 b.1.1.rule (get_in p.1.rules b.1.0 b.1.1.rule b.1.1.is))
 
 -- ---- the comparison
 
-comparing_decided : IsDecided AreAlike AreReady comparing
+comparing_decided : IsDecided AreAlike PairReady comparing
 comparing_decided =
-    into_decided AreAlike AreReady (λ (p : Pair) (k : Comparison). (p.0, k)) compared_rules
-    (notions_decided AreAlike AreReady PassesFrozenLimit IsComparisonOf (λ p e f g a b. inl (a.1 ∙ sym b.1)) (λ p k e g a b. a.0 b.0) either)
+    into_decided AreAlike PairReady (λ (p : Pair) (k : Comparison). (p.0, k)) compared_rules
+    (notions_decided AreAlike PairReady PassesFrozenLimit IsComparisonOf (λ p e f g a b. inl (a.1 ∙ sym b.1)) (λ p k e g a b. a.0 b.0) either)
   where
-    either : (p : Pair) → AreReady p → ((k : Comparison) × IsComparisonOf p k) ⊎ ((e : Refusal) × PassesFrozenLimit p e)
+    either : (p : Pair) → PairReady p → ((k : Comparison) × IsComparisonOf p k) ⊎ ((e : Refusal) × PassesFrozenLimit p e)
     either p g = elim (compared_or_past frozen_cells p.0.source p.0.target p.0.rules p.1.rules g.rules) [
       | inl h ↦ inr (_, (h, refl))
       | inr h ↦ inl (h.1.0, (h.0, h.1.1))
@@ -417,14 +417,14 @@ comparisons_decided P =
     next_decided AreAlike Any (FitsList P) (mapping_stages P) (next (other_stages P) (next comparable comparing)) (text_one P First)
     (λ c a M g p. accepted_fits P.list P.tests c p.0 M (is_small p.0 p.1.1) p.2) (text_decided P First)
     (next_decided AreAlike (FitsList P) (AreFitting P) (other_stages P) (next comparable comparing) (other_one P) both_fit (other_decided P)
-    (next_decided AreAlike (AreFitting P) AreReady comparable comparing comparable_one ready comparable_decided comparing_decided))
+    (next_decided AreAlike (AreFitting P) PairReady comparable comparing comparable_one ready comparable_decided comparing_decided))
   where
     both_fit : (c : World) (M : Mapping) (p : Pair) → FitsList P M → (other_stages P).passes c M p → AreFitting P p
     both_fit c M p h (N, (text, held, accepted), is) =
         subst (AreFitting P) (sym is) (h, accepted_fits P.list P.tests c text N (is_small text held.1) accepted)
 
     last_one : PassesOne (next no_conditions no_derived)
-    last_one = next_one no_conditions no_derived (checking_one HaveConditions AreFree) (checking_one HasDerived AreBothPlain)
+    last_one = next_one no_conditions no_derived (checking_one HaveConditions BothUnconditional) (checking_one HasDerived BothPlain)
 
     comparable_one : PassesOne comparable
     comparable_one = next_one same_sets (next no_conditions no_derived) (checking_one Differ HaveSameSets) last_one
@@ -433,13 +433,13 @@ comparisons_decided P =
     comparable_decided =
         next_decided AreAlike (AreFitting P) (AreFitting P) same_sets (next no_conditions no_derived) (checking_one Differ HaveSameSets)
         (λ c a b g p. subst (AreFitting P) (sym p.1) g) (same_sets_decided P)
-        (next_decided AreAlike (AreFitting P) (AreFitting P) no_conditions no_derived (checking_one HaveConditions AreFree)
+        (next_decided AreAlike (AreFitting P) (AreFitting P) no_conditions no_derived (checking_one HaveConditions BothUnconditional)
         (λ c a b g p. subst (AreFitting P) (sym p.1) g) (no_conditions_decided P) (no_derived_decided P))
 
-    ready : (c : World) (p q : Pair) → AreFitting P p → comparable.passes c p q → AreReady q
+    ready : (c : World) (p q : Pair) → AreFitting P p → comparable.passes c p q → PairReady q
     ready c p q g x =
         let s = passed_sets p q c x in
-        subst AreReady (sym s.0) (comparable_rules P p g.0 g.1 s.1 s.3)
+        subst PairReady (sym s.0) (comparable_rules P p g.0 g.1 s.1 s.3)
 
 pub compare_decided : (P : Program) → IsDecided AreAlike Any (compare_stages P)
 compare_decided P =

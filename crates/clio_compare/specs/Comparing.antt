@@ -10,7 +10,7 @@ use Rattle.dx_stages.specs.Ending.{PlanContent}
 use Rattle.dx_stages.specs.Stages.{Stage, next, become, over, into, checking, notions}
 use Rattle.dx_compare.specs.declared.comparing.Comparison.{Comparison}
 use Rattle.dx_compare.specs.Comparing.{IsComparison, ComparisonPassesLimit}
-use Rattle.dx_compare.specs.Laws.{AreComparable}
+use Rattle.dx_compare.specs.Laws.{ComparableRules}
 use Rattle.clio_accept.specs.declared.mapping.Mapping.{Mapping}
 use Rattle.clio_accept.specs.Mapping.{frozen_cells}
 use Rattle.clio_files.specs.Comparisons.{AreComparedFiles, compared_text}
@@ -47,37 +47,37 @@ abbrev pub same_sets : Stage Refusal Pair Pair
 same_sets = checking Differ HaveSameSets
 
 -- neither has a condition
-abbrev pub AreFree : Pair → Type 0
-AreFree p = (p.0.conditions ≡ []) × (p.1.conditions ≡ [])
+abbrev pub BothUnconditional : Pair → Type 0
+BothUnconditional p = (p.0.conditions ≡ []) × (p.1.conditions ≡ [])
 
 abbrev pub HaveConditions : Pair → Refusal → Type 0
-HaveConditions p e = (¬ (AreFree p)) × (e ≡ refusals.Other other_faults.Conditions)
+HaveConditions p e = (¬ (BothUnconditional p)) × (e ≡ refusals.Other other_faults.Conditions)
 
 abbrev pub no_conditions : Stage Refusal Pair Pair
-no_conditions = checking HaveConditions AreFree
+no_conditions = checking HaveConditions BothUnconditional
 
 -- no rule has derived variables
-abbrev pub ArePlain : List Rule → Type 0
-ArePlain R = Each R (λ d. d.derived ≡ [])
+abbrev pub NoneDerived : List Rule → Type 0
+NoneDerived R = Each R (λ d. d.derived ≡ [])
 
-abbrev pub AreBothPlain : Pair → Type 0
-AreBothPlain p = ArePlain p.0.rules × ArePlain p.1.rules
+abbrev pub BothPlain : Pair → Type 0
+BothPlain p = NoneDerived p.0.rules × NoneDerived p.1.rules
 
 -- the first rule that has some has this number
 pub record IsFirstDerived (R : List Rule) (number : ℕ) : Type 0 where
   pub rule : Rule
   pub is : slice_get R number ≡ Some rule
   pub some : ¬ (rule.derived ≡ [])
-  pub before : ArePlain (take number R)
+  pub before : NoneDerived (take number R)
 
 -- a rule of the first list has, or none of these and one of the second
 abbrev pub HasDerived : Pair → Refusal → Type 0
 HasDerived p e =
     ((n : ℕ) × IsFirstDerived p.0.rules n × (e ≡ refusals.Other (other_faults.Derived false n)))
-    ⊎ (ArePlain p.0.rules × ((n : ℕ) × IsFirstDerived p.1.rules n × (e ≡ refusals.Other (other_faults.Derived true n))))
+    ⊎ (NoneDerived p.0.rules × ((n : ℕ) × IsFirstDerived p.1.rules n × (e ≡ refusals.Other (other_faults.Derived true n))))
 
 abbrev pub no_derived : Stage Refusal Pair Pair
-no_derived = checking HasDerived AreBothPlain
+no_derived = checking HasDerived BothPlain
 
 abbrev pub comparable : Stage Refusal Pair Pair
 comparable = next same_sets (next no_conditions no_derived)
@@ -109,8 +109,8 @@ abbrev pub comparisons : Program → Stage Refusal (Unit {0}) (Mapping × Compar
 comparisons P = next (mapping_stages P) (next (other_stages P) (next comparable comparing))
 
 -- the files that are written of a comparison, and what is said of it
-abbrev pub AreWritten : Mapping → Comparison → List Entry → Text → Type 0
-AreWritten M k entries text =
+abbrev pub WritesComparison : Mapping → Comparison → List Entry → Text → Type 0
+WritesComparison M k entries text =
     (files : List PrintedFile) × AreComparedFiles M.source M.target k files × (entries ≡ files_of files)
     × (text ≡ compared_text k files)
 
@@ -127,7 +127,7 @@ compare_stages P = become (λ u q plan. IsComparedPlan q.0 q.1 plan) (comparison
 -- ---- what the code has
 
 -- the rules of both mappings are few, have no derived variables, and fit the sets of the first
-pub record AreReady (p : Pair) : Type 0 where
-  pub rules : AreComparable p.0.source p.0.target p.0.rules p.1.rules
+pub record PairReady (p : Pair) : Type 0 where
+  pub rules : ComparableRules p.0.source p.0.target p.0.rules p.1.rules
   pub few_first : length p.0.rules ≤ RULES
   pub few_second : length p.1.rules ≤ RULES

@@ -13,7 +13,7 @@ use Rattle.clio_files.specs.Sheets.{PrintedFile}
 use Rattle.clio_steps.specs.declared.texts.Side.TheVariants.{First, Second}
 use Rattle.clio_steps.specs.Steps.{Program}
 use Rattle.clio_steps.specs.Outcomes.{AcceptedIn, Writing}
-use Rattle.clio_compare.specs.Comparing.{AreBothPlain, AreFree, HaveSameSets}
+use Rattle.clio_compare.specs.Comparing.{BothPlain, BothUnconditional, HaveSameSets}
 
 -- ---- a comparison
 
@@ -26,8 +26,8 @@ pub record IsComparedIn (P : Program) (c : World) (k : Comparison) (Wrote : Writ
   pub second : Mapping
   pub other_accepted : AcceptedIn P Second c second
   pub same : HaveSameSets (first, second)
-  pub free : AreFree (first, second)
-  pub plain : AreBothPlain (first, second)
+  pub free : BothUnconditional (first, second)
+  pub plain : BothPlain (first, second)
   pub forward : (convert : Conversions) → (k.forward ≡ answers.Implies) ↔ Implies convert first.rules second.rules
   pub backward : (convert : Conversions) → (k.backward ≡ answers.Implies) ↔ Implies convert second.rules first.rules
   pub comparison : IsComparison first.source first.target first.rules second.rules k

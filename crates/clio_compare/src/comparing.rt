@@ -10,7 +10,7 @@ ghost use Rattle.dx_funcs.specs.Serving.{offered};
 ghost use Rattle.clio_files.specs.Comparisons.{FitsComparison};
 ghost use Rattle.clio_ending.specs.declared.ending.Refusal.TheVariants.{Other as OtherRefusal};
 ghost use Rattle.clio_steps.specs.Steps.{program};
-ghost use Rattle.clio_compare.specs.Comparing.{AreBothPlain, AreFree, ArePlain, AreReady, AreWritten, HasDerived, HaveSameSets, IsFirstDerived};
+ghost use Rattle.clio_compare.specs.Comparing.{BothPlain, BothUnconditional, NoneDerived, PairReady, WritesComparison, HasDerived, HaveSameSets, IsFirstDerived};
 ghost use Rattle.clio_compare.specs.Comparing.{comparable, compare_stages, compared_rules, comparisons};
 
 use clio_accept::Mapping;
@@ -37,7 +37,7 @@ fn have_same_sets(first: &Mapping, second: &Mapping) -> bool
 
 // Whether neither of two mappings has a condition.
 fn are_free(first: &Mapping, second: &Mapping) -> bool
-    ensures { IsTrue result ↔ AreFree (first.now, second.now) }
+    ensures { IsTrue result ↔ BothUnconditional (first.now, second.now) }
 {
     first.conditions.len() == 0 && second.conditions.len() == 0
 }
@@ -45,7 +45,7 @@ fn are_free(first: &Mapping, second: &Mapping) -> bool
 // The number of the first rule with derived variables.
 fn first_derived(rules: &[Rule]) -> Option<u32>
     requires { length rules.now ≤ RULES }
-    ensures none { IfNone result (ArePlain rules.now) }
+    ensures none { IfNone result (NoneDerived rules.now) }
     ensures some { IfSome result (IsFirstDerived rules.now) }
 {
     for (number, rule) in rules.iter().enumerate() {
@@ -60,7 +60,7 @@ fn first_derived(rules: &[Rule]) -> Option<u32>
 fn derived_in(first: &Mapping, second: &Mapping) -> Option<OtherFault>
     requires first { length first.now.rules ≤ RULES }
     requires second { length second.now.rules ≤ RULES }
-    ensures none { IfNone result (AreBothPlain (first.now, second.now)) }
+    ensures none { IfNone result (BothPlain (first.now, second.now)) }
     ensures some { IfSome result (λ f. HasDerived (first.now, second.now) (OtherRefusal f)) }
 {
     if let Some(rule) = first_derived(first.rules.items()) {
@@ -95,7 +95,7 @@ fn compare_rules(
     first: &Mapping,
     second: &Mapping,
 ) -> Result<Comparison, Stop<Refusal>>
-    requires { AreReady (first.now, second.now) }
+    requires { PairReady (first.now, second.now) }
     ensures { Gives compared_rules (first.now, second.now) result }
 {
     let Mapping { source, target, .. } = first;
@@ -137,7 +137,7 @@ fn compared_files(
     comparison: &Comparison,
 ) -> Result<(Vec<File>, Vec<u8>), AllocError>
     requires { FitsComparison mapping.now.source mapping.now.target comparison.now }
-    ensures { IfOk result (λ r. AreWritten mapping.now comparison.now (entries_of r.0.items) r.1.items) }
+    ensures { IfOk result (λ r. WritesComparison mapping.now comparison.now (entries_of r.0.items) r.1.items) }
 {
     let printed = print_comparison(alloc, &mapping.source, &mapping.target, comparison)?;
     let text = compared_text(alloc, comparison, &printed)?;

@@ -122,11 +122,11 @@ unfolding AreAt
 apart_at place a b xs ys p q d n m k = d (sym (p n m) ∙ q n k)
 
 -- what holds of the names of a direction: they are distinct, and begin with its first byte
-record AreOwn (first : ℕ) (names : List Name) : Type 0 where
+record OwnNumbers (first : ℕ) (names : List Name) : Type 0 where
   distinct : Distinct names
   at : AreAt 0 first names
 
-none_own : (first : ℕ) → AreOwn first []
+none_own : (first : ℕ) → OwnNumbers first []
 unfolding AreAt
 none_own first = record { distinct = tt; at = λ n m. elim m [ ] }
 
@@ -134,7 +134,7 @@ none_own first = record { distinct = tt; at = λ n m. elim m [ ] }
 two_own : (first place : ℕ) (front back : Name) (source target : Forest) → AreTables (tables_of source) → AreTables (tables_of target)
     → ((rest : Name) → get_or (front ++ rest) 0 0 ≡ first) → ((rest : Name) → get_or (back ++ rest) 0 0 ≡ first)
     → ((rest : Name) → get_or (front ++ rest) place 0 ≡ 115) → ((rest : Name) → get_or (back ++ rest) place 0 ≡ 116)
-    → AreOwn first (map (fronted front) (tables_of source) ++ map (fronted back) (tables_of target))
+    → OwnNumbers first (map (fronted front) (tables_of source) ++ map (fronted back) (tables_of target))
 two_own first place front back source target ss ts a b s t =
     let xs = map (fronted front) (tables_of source) in
     let ys = map (fronted back) (tables_of target) in record {
@@ -144,26 +144,26 @@ two_own first place front back source target ss ts a b s t =
     }
 
 forward_own : (source target : Forest) (answer : Answer) (fs : List PrintedFile) → AreTables (tables_of source) → AreTables (tables_of target)
-    → AreDirectionFiles (codes "forward") source target answer fs → AreOwn 102 (names_of fs)
-forward_own source target answers.Implies fs ss ts p = subst (λ (xs : List PrintedFile). AreOwn 102 (names_of xs)) (sym p) (none_own 102)
+    → AreDirectionFiles (codes "forward") source target answer fs → OwnNumbers 102 (names_of fs)
+forward_own source target answers.Implies fs ss ts p = subst (λ (xs : List PrintedFile). OwnNumbers 102 (names_of xs)) (sym p) (none_own 102)
 forward_own source target (answers.Refuted rule I K) fs ss ts p =
     let front = source_front (codes "forward") in
     let back = target_front (codes "forward") in
     let names = ap names_of p.is ∙ map-append (λ (f : PrintedFile). f.name) p.sources p.targets
     ∙ ap (λ (ns : List Name). ns ++ names_of p.targets) (table_names front 0 (tables_of source) I p.sources p.sources_are)
     ∙ ap (λ (ns : List Name). map (fronted front) (tables_of source) ++ ns) (table_names back 0 (tables_of target) K p.targets p.targets_are) in
-    subst (AreOwn 102) (sym names) (two_own 102 8 front back source target ss ts (λ r. refl) (λ r. refl) (λ r. refl) (λ r. refl))
+    subst (OwnNumbers 102) (sym names) (two_own 102 8 front back source target ss ts (λ r. refl) (λ r. refl) (λ r. refl) (λ r. refl))
 
 backward_own : (source target : Forest) (answer : Answer) (fs : List PrintedFile) → AreTables (tables_of source) → AreTables (tables_of target)
-    → AreDirectionFiles (codes "backward") source target answer fs → AreOwn 98 (names_of fs)
-backward_own source target answers.Implies fs ss ts p = subst (λ (xs : List PrintedFile). AreOwn 98 (names_of xs)) (sym p) (none_own 98)
+    → AreDirectionFiles (codes "backward") source target answer fs → OwnNumbers 98 (names_of fs)
+backward_own source target answers.Implies fs ss ts p = subst (λ (xs : List PrintedFile). OwnNumbers 98 (names_of xs)) (sym p) (none_own 98)
 backward_own source target (answers.Refuted rule I K) fs ss ts p =
     let front = source_front (codes "backward") in
     let back = target_front (codes "backward") in
     let names = ap names_of p.is ∙ map-append (λ (f : PrintedFile). f.name) p.sources p.targets
     ∙ ap (λ (ns : List Name). ns ++ names_of p.targets) (table_names front 0 (tables_of source) I p.sources p.sources_are)
     ∙ ap (λ (ns : List Name). map (fronted front) (tables_of source) ++ ns) (table_names back 0 (tables_of target) K p.targets p.targets_are) in
-    subst (AreOwn 98) (sym names) (two_own 98 9 front back source target ss ts (λ r. refl) (λ r. refl) (λ r. refl) (λ r. refl))
+    subst (OwnNumbers 98) (sym names) (two_own 98 9 front back source target ss ts (λ r. refl) (λ r. refl) (λ r. refl) (λ r. refl))
 
 pub names_are_apart : ComparedNamesAreApart
 names_are_apart source target c files ss ts p =

@@ -23,7 +23,7 @@ use Rattle.dx_judge.specs.declared.verdict.Verdict.TheVariants as verdicts
 use Rattle.dx_judge.specs.declared.verdict.Why.TheVariants as whys
 use Rattle.dx_compare.specs.declared.comparing.Answer.TheVariants as directions
 use Rattle.clio_files.specs.Answers.{answers_sheet}
-use Rattle.clio_files.specs.Comparisons.{AreComparedFiles, AreRefutingFiles, compared_text}
+use Rattle.clio_files.specs.Comparisons.{AreComparedFiles, RefutingFiles, compared_text}
 use Rattle.clio_files.specs.Files.{contents_of, summary_of}
 use Rattle.clio_files.specs.Nested.{AreRootFiles}
 use Rattle.clio_files.specs.Sheets.{PrintedFile, file_of, fold_sheet, nulls_sheet}
@@ -206,7 +206,7 @@ no_size = record { width = 1; rows = [] } ∷ []
 -- a file's name is what is in front and the table's, and its records are those under the header
 module _ (one no_one : Text) (s : IsTableText (codes "size" ∷ []) ((Const (codes "7") ∷ []) ∷ []) one)
     (n : IsTableText (codes "size" ∷ []) [] no_one) where
-  refuting : (direction : Text) → AreRefutingFiles direction halls halls seven no_size
+  refuting : (direction : Text) → RefutingFiles direction halls halls seven no_size
       (told ((direction ++ codes "_source_") ++ codes "hall.csv") one (length s.sorted)
       ∷ told ((direction ++ codes "_target_") ++ codes "hall.csv") no_one (length n.sorted) ∷ [])
   refuting direction = record {

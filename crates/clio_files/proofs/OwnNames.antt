@@ -7,7 +7,7 @@ use Rattle.dx_base.proofs.Members.{from_append, from_map, in_map}
 use Rattle.dx_instance.specs.NullMaps.{pairs_of}
 use Rattle.dx_instance.specs.Stored.{TableRows}
 use Rattle.dx_schema.specs.Forest.{Forest}
-use Rattle.dx_schema.specs.Inner.{AreAscending}
+use Rattle.dx_schema.specs.Inner.{PlacesAscend}
 use Rattle.dx_schema.specs.Tables.{TableOf, schema_table, tables_of, no_table}
 use Rattle.clio_source.specs.Source.{csv_name, json_name, roots}
 use Rattle.clio_source.proofs.Roots.{is_root, names_differ, no_parent}
@@ -101,7 +101,7 @@ csv_distinct (t ∷ ts) d = (
   csv_distinct ts d.1,
 )
 
-json_distinct : (target : Forest) (rs : List ℕ) → Distinct (map name_in (tables_of target)) → AreAscending rs
+json_distinct : (target : Forest) (rs : List ℕ) → Distinct (map name_in (tables_of target)) → PlacesAscend rs
     → Each rs (λ r. r < length (tables_of target)) → Distinct (map (json_of target) rs)
 json_distinct target [] d up within = tt
 json_distinct target (r ∷ rs) d up within = (

@@ -9,7 +9,7 @@ use Rattle.dx_instance.specs.Stored.{TableRows, rows_of}
 use Rattle.dx_schema.specs.Forest.{Forest}
 use Rattle.dx_schema.specs.Tables.{TableOf}
 use Rattle.dx_funcs.specs.declared.conversion.Conversion.{Conversion}
-use Rattle.dx_rule_text.specs.Printed.{AreAtomsOf, AreListed}
+use Rattle.dx_rule_text.specs.Printed.{AtomsWithin, AllListed}
 use Rattle.dx_rule_text.proofs.Printing.{atoms_of}
 use Rattle.clio_files.specs.declared.printed.Printed.{Printed}
 use Rattle.clio_files.specs.Files.{IsTableFile, contents_of, printed_view}
@@ -21,16 +21,16 @@ use Rattle.clio_files.proofs.SheetLists.{are_more, length_take, two_more}
 -- ---- rules whose texts are printed
 
 pub premises_of : (source target : Forest) (list : List Conversion) (R : List Rule) → FitTexts source target list R
-    → Each R (λ d. AreAtomsOf source d.premise)
+    → Each R (λ d. AtomsWithin source d.premise)
 premises_of source target list R h d m = atoms_of source d.premise (h.fit d m).premise
 
 pub conclusions_of : (source target : Forest) (list : List Conversion) (R : List Rule) → FitTexts source target list R
-    → Each R (λ d. AreAtomsOf target d.conclusion)
+    → Each R (λ d. AtomsWithin target d.conclusion)
 conclusions_of source target list R h d m = atoms_of target d.conclusion (h.fit d m).conclusion
 
 -- conversions are listed by their codes
 pub codes_of : (source target : Forest) (list : List Conversion) (R : List Rule) → FitTexts source target list R
-    → Each R (λ d. AreListed list d.derived)
+    → Each R (λ d. AllListed list d.derived)
 codes_of source target list R h d m e n =
     let l = h.listed d m e n in
     subst (λ code. code ∈ map (λ (c : Conversion). c.code) list) l.2 (in_map (λ (c : Conversion). c.code) l.1)

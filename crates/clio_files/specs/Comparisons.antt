@@ -23,7 +23,7 @@ abbrev pub target_front : Text → Text
 target_front direction = direction ++ codes "_target_"
 
 -- two instances that refute a direction: a file for each table of the first, and then for each of the second
-pub record AreRefutingFiles (direction : Text) (source target : Forest) (I K : List TableRows)
+pub record RefutingFiles (direction : Text) (source target : Forest) (I K : List TableRows)
     (files : List PrintedFile) : Type 0 where
   pub sources : List PrintedFile
   pub sources_are : AreTableFiles (source_front direction) 0 (tables_of source) I sources
@@ -35,7 +35,7 @@ pub record AreRefutingFiles (direction : Text) (source target : Forest) (I K : L
 abbrev pub AreDirectionFiles : Text → Forest → Forest → Answer → List PrintedFile → Type 0
 AreDirectionFiles direction source target answers.Implies files = files ≡ []
 AreDirectionFiles direction source target (answers.Refuted rule I K) files =
-    AreRefutingFiles direction source target I K files
+    RefutingFiles direction source target I K files
 
 -- the files of a comparison: those of its two directions
 pub record AreComparedFiles (source target : Forest) (c : Comparison) (files : List PrintedFile) : Type 0 where

@@ -4,7 +4,7 @@ ghost use Rattle.std.specs.List.{concat};
 ghost use Rattle.dx_base.specs.Members.{◌∈◌};
 ghost use Rattle.dx_model.specs.Values.{NullsAscend};
 ghost use Rattle.dx_instance.specs.Numbers.{ValuesAscend, value_of, IsConstant};
-ghost use Rattle.dx_instance.specs.Shown.{AreBelow, numbers_of_table, shown_tables};
+ghost use Rattle.dx_instance.specs.Shown.{NumbersBelow, numbers_of_table, shown_tables};
 ghost use Rattle.dx_instance.specs.Stored.{facts};
 ghost use Rattle.clio_files.specs.Marks.{AreMarks, IsMarked, IsNull, table_numbers};
 ghost use Rattle.clio_files.specs.Sheets.{AreTargetNulls};
@@ -34,7 +34,7 @@ fn first_null(target: &Numbers) -> u32
 
 // Marks the numbers of a row that are at least `first`.
 fn mark_row(first: u32, row: &[u32], marks: &mut Vec<bool>)
-    requires { AreBelow (first + length marks.old.items) row.now }
+    requires { NumbersBelow (first + length marks.old.items) row.now }
     ensures many { length marks.new.items ≡ length marks.old.items }
     ensures marked { (seen : List ℕ) → AreMarks first seen marks.old.items → AreMarks first (seen ++ row.now) marks.new.items }
 {

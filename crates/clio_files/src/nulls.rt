@@ -3,7 +3,7 @@ ghost use Rattle.std.specs.Prelude.{◌≡◌, ◌↔◌, ◌<◌, ◌++◌, IfO
 ghost use Rattle.dx_base.specs.Members.{◌∈◌};
 ghost use Rattle.dx_model.specs.Instances.{nulls_in};
 ghost use Rattle.dx_model.specs.Values.{NullsAscend};
-ghost use Rattle.dx_instance.specs.Shown.{AreBelow, shown_row, shown_tables};
+ghost use Rattle.dx_instance.specs.Shown.{NumbersBelow, shown_row, shown_tables};
 ghost use Rattle.dx_instance.specs.Stored.{facts, rows_of};
 ghost use Rattle.clio_files.specs.Sheets.{AreTargetNulls};
 
@@ -14,7 +14,7 @@ use std::alloc::{AllocError, Global};
 
 // The nulls of a row of numbers.
 fn push_row(target: &Numbers, row: &[u32], nulls: &mut Vec<NullId>) -> Result<(), AllocError>
-    requires { AreBelow (length target.now.symbols) row.now }
+    requires { NumbersBelow (length target.now.symbols) row.now }
     ensures { OnOk result (nulls.new.items ≡ nulls.old.items ++ nulls_in (shown_row target.now.symbols row.now)) }
 {
     for number in row {

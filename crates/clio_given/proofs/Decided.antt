@@ -34,7 +34,7 @@ use Rattle.clio_source.specs.declared.fault.SourceRefusal.TheVariants as refusal
 use Rattle.clio_source.specs.Source.{IsStored, ReadState, as_facts, fact_cells, fetching}
 use Rattle.clio_source.proofs.Decided.{some_stored, row_of_both, fetching_decided, fetching_one}
 use Rattle.clio_source.proofs.Passed.{AreOf}
-use Rattle.clio_given.specs.Given.{AreValuesOf, IsGivenRowsFault, IsGivenFault, IsFirstNoRow, IsNoRow, IsValueOf, SayRows, SaysGivenRows, TargetRequest, given_files_stages, given_name, given_loading, none_read, given_reading, given_storing, too_many_given_cells, with_given_facts}
+use Rattle.clio_given.specs.Given.{ValuesOfFields, IsGivenRowsFault, IsGivenFault, IsFirstNoRow, IsNoRow, IsValueOf, SayRows, SaysGivenRows, TargetRequest, given_files_stages, given_name, given_loading, none_read, given_reading, given_storing, too_many_given_cells, with_given_facts}
 use Rattle.clio_given.specs.Laws.{GivenOrRefused, OneGiven}
 
 abbrev Same : SourceRefusal → SourceRefusal → Type 0
@@ -165,7 +165,7 @@ row_or (x ∷ fields) = elim (field_or x) [
     behind none [] z = z
     behind none (v ∷ row) z = none row z.1
 
-rows_or : (fields : List (List Value)) → ((rows : List (List Value)) × AreValuesOf fields rows) ⊎ ((r : ℕ) × IsFirstNoRow fields r)
+rows_or : (fields : List (List Value)) → ((rows : List (List Value)) × ValuesOfFields fields rows) ⊎ ((r : ℕ) × IsFirstNoRow fields r)
 rows_or [] = inl ([], tt)
 rows_or (x ∷ fields) = elim (row_or x) [
   | inr none ↦ inr (1, record { place = 0; number = refl; row = x; is = refl; no_row = none; before = λ y m. elim m [ ] })
@@ -208,7 +208,7 @@ zip_one R one (x ∷ xs) (y ∷ ys) (z ∷ zs) p q =
     let rest = zip_one R one xs ys zs p.1 q.1 in
     (λ i. first i ∷ rest i)
 
-values_one : (fields a b : List (List Value)) → AreValuesOf fields a → AreValuesOf fields b → a ≡ b
+values_one : (fields a b : List (List Value)) → ValuesOfFields fields a → ValuesOfFields fields b → a ≡ b
 values_one fields a b p q = zip_one (AllZip IsValueOf) (λ x y z. zip_one IsValueOf value_one x y z) fields a b p q
 
 some_eq : {X : Type 0} (x y : X) → Some x ≡ Some y → x ≡ y
@@ -237,7 +237,7 @@ zip_at R (u ∷ xs) [] i x z e = absurd z
 zip_at {X} {Y} R (u ∷ xs) (y ∷ ys) zero x z e = (y, subst (λ (w : X). R w y) (some_eq u x e) z.0)
 zip_at R (u ∷ xs) (y ∷ ys) (suc i) x z e = zip_at R xs ys i x z.1 e
 
-never_rows : (fields rows : List (List Value)) (r : ℕ) → AreValuesOf fields rows → ¬ (IsFirstNoRow fields r)
+never_rows : (fields rows : List (List Value)) (r : ℕ) → ValuesOfFields fields rows → ¬ (IsFirstNoRow fields r)
 never_rows fields rows r z n = let w = zip_at (AllZip IsValueOf) fields rows n.place n.row z n.is in n.no_row w.0 w.1
 
 -- ---- what the bytes of a file say
@@ -252,7 +252,7 @@ module _ (f : Forest) (table : ℕ) (bytes : List ℕ) where
   said_one : (a b : List (List Value)) → SayRows f table bytes a → SayRows f table bytes b → a ≡ b
   said_one a b x y =
       let same : x.0 ≡ y.0 = table-is-one records columns x.0 y.0 x.1 y.1 in
-      values_one y.0 a b (subst (λ (fields : List (List Value)). AreValuesOf fields a) same x.2) y.2
+      values_one y.0 a b (subst (λ (fields : List (List Value)). ValuesOfFields fields a) same x.2) y.2
 
   fault_one : (d e : RowsFault) → IsGivenRowsFault f table bytes d → IsGivenRowsFault f table bytes e → d ≡ e
   fault_one d e (inl x) (inl y) = x.2 ∙ (ap Csv (fault-is-one records columns x.0 y.0 x.1 y.1) ∙ sym y.2)

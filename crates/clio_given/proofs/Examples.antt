@@ -9,14 +9,14 @@ use Rattle.dx_model.specs.declared.values.NullId.{NullId}
 use Rattle.dx_model.specs.declared.values.Value.{Value}
 use Rattle.dx_model.specs.declared.values.Value.TheVariants.{Const, Null}
 use Rattle.dx_schema.specs.Forest.{Forest, bare_set, none, set}
-use Rattle.dx_instance.specs.ValueText.{AreThreeNumerals, IsNoValueText, value_text_of}
+use Rattle.dx_instance.specs.ValueText.{ThreeNumerals, IsNoValueText, value_text_of}
 use Rattle.dx_instance.proofs.NoTexts.{no_value_texts}
 use Rattle.dx_csv.specs.declared.fault.RowKind.TheVariants as kinds
 use Rattle.dx_csv.specs.Table.{AreTableRecords, table_records}
 use Rattle.clio_source.specs.declared.fault.RowsFault.TheVariants.{Csv}
 use Rattle.clio_source.specs.declared.fault.SourceRefusal.TheVariants as refusals
 use Rattle.clio_source.specs.Source.{ReadState}
-use Rattle.clio_given.specs.Given.{AreValuesOf, IsFirstNoRow, IsGivenFault, IsNoRow, IsValueOf, SayRows, SaysGivenRows, given_name, none_read, too_many_given_cells, with_given_facts}
+use Rattle.clio_given.specs.Given.{ValuesOfFields, IsFirstNoRow, IsGivenFault, IsNoRow, IsValueOf, SayRows, SaysGivenRows, given_name, none_read, too_many_given_cells, with_given_facts}
 use Rattle.clio_given.proofs.Parsed.{no_row}
 
 -- departments with their employees, and cities
@@ -35,7 +35,7 @@ null : NullId
 null = record { rule = 1; var = 0; row = 2 }
 
 -- a null is read, and of a text that begins with `?` one such is taken off; an empty field is the empty text
-values_are : AreValuesOf
+values_are : ValuesOfFields
     ((Const (codes "?1.0.2") ∷ Const (codes "??x") ∷ []) ∷ (Const (codes "x?") ∷ Const [] ∷ []) ∷ [])
     ((Null null ∷ Const (codes "?x") ∷ []) ∷ (Const (codes "x?") ∷ Const [] ∷ []) ∷ [])
 unfolding null digits
@@ -45,7 +45,7 @@ values_are = (
 )
 
 -- `?x` is no value's text
-no_numerals : ¬ (AreThreeNumerals (codes "x"))
+no_numerals : ¬ (ThreeNumerals (codes "x"))
 no_numerals n = of n.first (n.second ++ 46 ∷ n.third) n.are
   where
     of : (first rest : List ℕ) → codes "x" ≡ first ++ 46 ∷ rest → ⊥

@@ -9,7 +9,7 @@ use Rattle.dx_model.specs.declared.values.Value.{Value}
 use Rattle.dx_model.specs.declared.facts.Fact.{Fact}
 use Rattle.dx_instance.specs.Cells.{NumberTable}
 use Rattle.dx_instance.specs.Numbers.{Extends}
-use Rattle.dx_instance.specs.Shown.{AreBelow, NumberRowsFit, shown_row, shown_tables}
+use Rattle.dx_instance.specs.Shown.{NumbersBelow, NumberRowsFit, shown_row, shown_tables}
 use Rattle.dx_instance.specs.Stored.{IsSorting, TableRows, facts, widths}
 use Rattle.dx_instance.proofs.StoredFacts.{sorting_facts}
 use Rattle.dx_schema.specs.Forest.{Forest}
@@ -52,7 +52,7 @@ many_tables f n r h fit =
 
 module _ (f : Forest) (n : ℕ) (before after : Reading) (t : NumberTable) (fit : GivenReadFits f n before) (h : n < length (tables_of f))
     (grows : Extends before.symbols after.symbols) (e : after.tables.items ≡ before.tables.items ++ t ∷ []) where
-  pub fit_more : t.width ≡ length (schema_table f n).columns → 1 ≤ t.width → Each t.rows (AreBelow (length after.symbols)) → GivenReadFits f (n + 1) after
+  pub fit_more : t.width ≡ length (schema_table f n).columns → 1 ≤ t.width → Each t.rows (NumbersBelow (length after.symbols)) → GivenReadFits f (n + 1) after
   fit_more wide some below = record {
     widths = widths_more f (map width_of before.tables.items) (map width_of after.tables.items) n t.width h wide fit.widths
         (ap (map width_of) e ∙ map-append width_of before.tables.items (t ∷ []));

@@ -13,13 +13,13 @@ use Rattle.dx_model.specs.declared.values.Value.{Value}
 use Rattle.dx_model.specs.declared.values.Value.TheVariants.{Const, Null}
 use Rattle.dx_instance.specs.Cells.{NumberTable, with_numbers}
 use Rattle.dx_instance.specs.Numbers.{Extends, value_of}
-use Rattle.dx_instance.specs.Shown.{AreBelow, Shows, shown_row}
+use Rattle.dx_instance.specs.Shown.{NumbersBelow, Shows, shown_row}
 use Rattle.dx_instance.specs.ValueText.{ValueFits, value_text_of}
 use Rattle.dx_instance.proofs.ShownFacts.{grown_below, grown_row, grown_rows}
 use Rattle.dx_csv.specs.Table.{AreTableRecords, IsWholeRecord}
 use Rattle.dx_model.specs.Values.{constants}
 use Rattle.clio_given.specs.Given.{IsFirstNoRow, IsNoRow, IsValueOf}
-use Rattle.clio_given.specs.Reading.{AreShown}
+use Rattle.clio_given.specs.Reading.{ShowsFields}
 
 -- ---- one field
 
@@ -90,9 +90,9 @@ no_row fields field m none row z = let w = zip_item IsValueOf fields row field z
 
 -- the rows of the first records
 pub record AreRows (records : List (List Value)) (S : List Value) (width : ℕ) (t : NumberTable) (i : ℕ) : Type 0 where
-  pub shown : AreShown (take i records) S t
+  pub shown : ShowsFields (take i records) S t
   pub wide : t.width ≡ width
-  pub below : Each t.rows (AreBelow (length S))
+  pub below : Each t.rows (NumbersBelow (length S))
   pub many : length t.rows ≡ i
 
 pub none_made : (records : List (List Value)) (S : List Value) (width : ℕ) (t : NumberTable) → t ≡ record { width = width; rows = [] } → AreRows records S width t 0
@@ -112,12 +112,12 @@ made_more records S T width i t u fields numbers h is w grows e old = rw e (reco
   many = let l = length-append t.rows (numbers ∷ []) in let m = old.many in omega (arith, l, m);
 })
   where
-    last : (r : List ℕ) → r ∈ (numbers ∷ []) → AreBelow (length T) r
-    last r (here d) = subst (AreBelow (length T)) d w.2.within
+    last : (r : List ℕ) → r ∈ (numbers ∷ []) → NumbersBelow (length T) r
+    last r (here d) = subst (NumbersBelow (length T)) d w.2.within
     last r (there m) = elim m [ ]
 
-pub all_made : (records : List (List Value)) (S : List Value) (width : ℕ) (t : NumberTable) (i : ℕ) → length records ≤ i → AreRows records S width t i → AreShown records S t
-all_made records S width t i h old = subst (λ (rs : List (List Value)). AreShown rs S t) (take_all i records h) old.shown
+pub all_made : (records : List (List Value)) (S : List Value) (width : ℕ) (t : NumberTable) (i : ℕ) → length records ≤ i → AreRows records S width t i → ShowsFields records S t
+all_made records S width t i h old = subst (λ (rs : List (List Value)). ShowsFields rs S t) (take_all i records h) old.shown
 
 -- the numbers of a row are as many as its fields
 pub numbers_wide : (fields S : List Value) (numbers : List ℕ) → ((row : List Value) × AllZip IsValueOf fields row × Shows S numbers row) → length numbers ≡ length fields

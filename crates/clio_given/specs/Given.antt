@@ -27,8 +27,8 @@ abbrev pub IsValueOf : Value → Value → Type 0
 IsValueOf field v = ValueFits v × (field ≡ Const (value_text_of v))
 
 -- the fields of the rows are the texts of these values
-abbrev pub AreValuesOf : List (List Value) → List (List Value) → Type 0
-AreValuesOf fields rows = AllZip (AllZip IsValueOf) fields rows
+abbrev pub ValuesOfFields : List (List Value) → List (List Value) → Type 0
+ValuesOfFields fields rows = AllZip (AllZip IsValueOf) fields rows
 
 -- a field of the row is no value's text
 abbrev pub IsNoRow : List Value → Type 0
@@ -76,7 +76,7 @@ IsGivenFault f table p e =
 abbrev pub SayRows : Forest → ℕ → List ℕ → List (List Value) → Type 0
 SayRows f table bytes rows =
     (fields : List (List Value))
-    × AreTableRecords (table_records bytes) (schema_table f table).columns fields × AreValuesOf fields rows
+    × AreTableRecords (table_records bytes) (schema_table f table).columns fields × ValuesOfFields fields rows
 
 abbrev pub SaysGivenRows : Forest → ℕ → ReadState × List ℕ → ReadState × List Fact → Type 0
 SaysGivenRows f table p q =

@@ -16,13 +16,13 @@ use Rattle.clio_source.specs.Source.{ReadState}
 use Rattle.clio_source.specs.declared.reading.Reading.{Reading}
 use Rattle.clio_given.specs.declared.values.NoValues.{NoValues}
 use Rattle.clio_given.specs.declared.values.NoValues.TheVariants as no_values
-use Rattle.clio_given.specs.Given.{AreValuesOf, IsGivenRowsFault, IsFirstNoRow}
+use Rattle.clio_given.specs.Given.{ValuesOfFields, IsGivenRowsFault, IsFirstNoRow}
 
 -- ---- values of fields
 
 -- numbers of symbols show the values of fields
-abbrev pub AreShown : List (List Value) → List Value → NumberTable → Type 0
-AreShown fields symbols t = AreValuesOf fields (map (shown_row symbols) t.rows)
+abbrev pub ShowsFields : List (List Value) → List Value → NumberTable → Type 0
+ShowsFields fields symbols t = ValuesOfFields fields (map (shown_row symbols) t.rows)
 
 -- why the fields of rows have no values
 abbrev pub IsNoValueFault : List (List Value) → NoValues → Type 0

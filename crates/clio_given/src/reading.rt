@@ -5,7 +5,7 @@ ghost use Rattle.dx_stages.specs.Running.{Gives};
 ghost use Rattle.dx_schema.specs.Forest.{Forest};
 ghost use Rattle.dx_schema.specs.Tables.{schema_table, tables_of};
 ghost use Rattle.dx_instance.specs.Numbers.{Extends};
-ghost use Rattle.dx_instance.specs.Shown.{AreBelow, shown_row};
+ghost use Rattle.dx_instance.specs.Shown.{NumbersBelow, shown_row};
 ghost use Rattle.clio_given.specs.Given.{SayRows, given_name, given_loading, none_read, too_many_given_cells};
 ghost use Rattle.clio_given.specs.Reading.{GivenIsNotRead, GivenReadFits, read_of, shown_result};
 
@@ -54,7 +54,7 @@ fn rows_of_bytes(
     requires { table < length (tables_of schema.now) }
     ensures rows { IfOk result (λ rows. SayRows schema.now table bytes.now (map (shown_row symbols.new) rows.rows)) }
     ensures width { IfOk result (λ rows. rows.width ≡ length (schema_table schema.now table).columns) }
-    ensures below { IfOk result (λ rows. Each rows.rows (AreBelow (length symbols.new))) }
+    ensures below { IfOk result (λ rows. Each rows.rows (NumbersBelow (length symbols.new))) }
     ensures grows { Extends symbols.old symbols.new }
     ensures fault { IfErr result (GivenIsNotRead schema.now table bytes.now file) }
 {

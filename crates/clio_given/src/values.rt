@@ -4,10 +4,10 @@ ghost use Rattle.std.specs.List.{AllZip};
 ghost use Rattle.dx_base.specs.Members.{Each};
 ghost use Rattle.dx_model.specs.declared.values.Value.{Value as Cell};
 ghost use Rattle.dx_instance.specs.Numbers.{Extends};
-ghost use Rattle.dx_instance.specs.Shown.{AreBelow, Shows};
+ghost use Rattle.dx_instance.specs.Shown.{NumbersBelow, Shows};
 ghost use Rattle.clio_given.specs.declared.values.NoValues.TheVariants.{Memory};
 ghost use Rattle.clio_given.specs.Given.{IsNoRow, IsValueOf};
-ghost use Rattle.clio_given.specs.Reading.{AreShown, IsNoValueFault};
+ghost use Rattle.clio_given.specs.Reading.{ShowsFields, IsNoValueFault};
 
 use dx_base::no_number_left;
 use dx_instance::{Gathered, Row, Rows, Value, value_read};
@@ -81,9 +81,9 @@ pub(crate) fn rows_of(
     symbols: &mut Gathered,
 ) -> Result<Rows, NoValues>
     requires wide { Each records.now (λ fields. length fields ≡ width) }
-    ensures rows { IfOk result (AreShown records.now symbols.new) }
+    ensures rows { IfOk result (ShowsFields records.now symbols.new) }
     ensures width { IfOk result (λ rows. rows.width ≡ width) }
-    ensures below { IfOk result (λ rows. Each rows.rows (AreBelow (length symbols.new))) }
+    ensures below { IfOk result (λ rows. Each rows.rows (NumbersBelow (length symbols.new))) }
     ensures grows { Extends symbols.old symbols.new }
     ensures fault { IfErr result (IsNoValueFault records.now) }
 {

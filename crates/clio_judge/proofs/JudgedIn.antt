@@ -7,7 +7,7 @@ use Rattle.dx_schema.specs.Forest.{Forest}
 use Rattle.dx_schema.specs.Tables.{model_tables}
 use Rattle.dx_judge.specs.declared.fault.JudgeFault.TheVariants as judge_faults
 use Rattle.dx_judge.specs.declared.verdict.Verdict.{Verdict}
-use Rattle.dx_judge.specs.Laws.{AreSameFault as FaultsAlike, InputFits}
+use Rattle.dx_judge.specs.Laws.{SameFault as FaultsAlike, InputFits}
 use Rattle.dx_judge.specs.Verdicts.{IsJudgement, judging}
 use Rattle.dx_judge.proofs.Judgements.{judged_or_limit}
 use Rattle.dx_stages.specs.Worlds.{World}

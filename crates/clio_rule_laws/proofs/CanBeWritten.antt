@@ -20,7 +20,7 @@ use Rattle.dx_funcs.specs.declared.conversion.Conversion.{Conversion}
 use Rattle.dx_funcs.specs.Names.{conversion_name}
 use Rattle.dx_funcs.specs.Offers.{IsOffer}
 use Rattle.dx_rule_text.specs.Printed.{rule_text, table_name}
-use Rattle.dx_tgd_text.specs.Laws.{AreOffered}
+use Rattle.dx_tgd_text.specs.Laws.{AllOffered}
 use Rattle.clio_rule_laws.specs.ReadBack.{HasNamedTables, IsPrintableRule, IsWritable}
 use Rattle.clio_rule_laws.specs.Laws.{PrintedRulesAreRead}
 use Rattle.clio_rule_laws.proofs.Says.{Counted, counted, SaysRule}
@@ -77,7 +77,7 @@ counted_from n [] c m = elim m [ ]
 counted_from n (d ∷ ds) c (here e) = subst (IsCountedFrom n (d ∷ ds)) e (record { member = here refl; high = omega arith })
 counted_from n (d ∷ ds) c (there m) = let k = counted_from (suc n) ds c m in let high = k.high in record { member = there k.member; high = omega (arith, high) }
 
-derived_can : (source target : Forest) (list : List Conversion) (d : Rule) → IsOffer list → IsRule d → AreOffered list d → IsWritable list d → Each (counted (premise_variables d) d.derived) (CanBeDerived (conversion_name list))
+derived_can : (source target : Forest) (list : List Conversion) (d : Rule) → IsOffer list → IsRule d → AllOffered list d → IsWritable list d → Each (counted (premise_variables d) d.derived) (CanBeDerived (conversion_name list))
 derived_can source target list d offer rule offered w c m =
     let k = counted_from (premise_variables d) d.derived c m in
     let high = k.high in

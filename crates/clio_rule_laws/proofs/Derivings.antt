@@ -5,7 +5,7 @@ use Rattle.std.proofs.lemmas.List.{append-nil}
 use Rattle.dx_base.specs.Members.{here, there, Each}
 use Rattle.dx_base.specs.Firsts.{first_of}
 use Rattle.dx_model.specs.declared.rules.Derived.{Derived}
-use Rattle.dx_model.specs.Tables.{AreWithin}
+use Rattle.dx_model.specs.Tables.{AllInside}
 use Rattle.dx_schema.specs.Tables.{number_of_name}
 use Rattle.dx_base.specs.Texts.{Text}
 use Rattle.dx_schema.specs.Faults.{is_among}
@@ -32,7 +32,7 @@ pub record AreArgumentsBack (variables : List Text) (call : ℕ) (args : List �
   pub same : map (arg_of variables) texts ≡ args
   pub many : length texts ≡ length args
 
-arguments_back : (bound m call : ℕ) (args : List ℕ) (texts : List CellText) → DifferBelow bound variable_text → m ≤ bound → AreWithin args m → Paired SaysVariable args texts → AreArgumentsBack (run variable_text 0 m) call args texts
+arguments_back : (bound m call : ℕ) (args : List ℕ) (texts : List CellText) → DifferBelow bound variable_text → m ≤ bound → AllInside args m → Paired SaysVariable args texts → AreArgumentsBack (run variable_text 0 m) call args texts
 arguments_back bound m call [] [] differ fits within no_pair = record { no_fault = refl; same = refl; many = refl }
 arguments_back bound m call [] (t ∷ texts) differ fits within h = elim h [ ]
 arguments_back bound m call (n ∷ args) [] differ fits within h = elim h [ ]
@@ -74,7 +74,7 @@ pub record IsDerivedBack (list : List Conversion) (variables known : List Text) 
   pub same : derived_of_text list variables t ≡ d
 
 -- one derived variable, after n known names
-derived_back : (list : List Conversion) (bound m : ℕ) (d : Counted) (t : DerivedText) → IsOffer list → DifferBelow bound variable_text → m ≤ d.number → d.number < bound → IsListed list d.derived.code (length d.derived.args) → AreWithin d.derived.args m
+derived_back : (list : List Conversion) (bound m : ℕ) (d : Counted) (t : DerivedText) → IsOffer list → DifferBelow bound variable_text → m ≤ d.number → d.number < bound → IsListed list d.derived.code (length d.derived.args) → AllInside d.derived.args m
     → SaysDerived (conversion_name list) d t → IsDerivedBack list (run variable_text 0 m) (run variable_text 0 d.number) d.derived t
 derived_back list bound m d t offer differ low high listed within s =
     let variables = run variable_text 0 m in
@@ -102,7 +102,7 @@ pub record AreDerivedBack (list : List Conversion) (m n : ℕ) (ds : List Derive
   pub names : run variable_text 0 n ++ derived_names texts ≡ run variable_text 0 (n + length ds)
 
 pub derivings_back : (list : List Conversion) (bound m n : ℕ) (ds : List Derived) (texts : List DerivedText) → IsOffer list → DifferBelow bound variable_text → m ≤ n → n + length ds ≤ bound
-    → Each ds (λ d. IsListed list d.code (length d.args)) → Each ds (λ d. AreWithin d.args m) → Paired (SaysDerived (conversion_name list)) (counted n ds) texts → AreDerivedBack list m n ds texts
+    → Each ds (λ d. IsListed list d.code (length d.args)) → Each ds (λ d. AllInside d.args m) → Paired (SaysDerived (conversion_name list)) (counted n ds) texts → AreDerivedBack list m n ds texts
 derivings_back list bound m n [] [] offer differ low high listed within no_pair =
     let at : n ≡ n + 0 = omega arith in
     record { no_fault = refl; same = refl; names = append-nil (run variable_text 0 n) ∙ ap (run variable_text 0) at }

@@ -33,7 +33,7 @@ use Rattle.dx_funcs.specs.declared.conversion.Conversion.{Conversion}
 use Rattle.dx_funcs.specs.Offers.{IsOffer}
 use Rattle.dx_rule_text.specs.Printed.{rule_text, rules_text, table_name}
 use Rattle.dx_tgd_text.specs.Reading.{rule_fault, rules_fault, rules_of_texts}
-use Rattle.dx_tgd_text.specs.Laws.{AreOffered}
+use Rattle.dx_tgd_text.specs.Laws.{AllOffered}
 use Rattle.clio_rule_laws.specs.ReadBack.{HasNamedTables, with_more_rules}
 use Rattle.clio_rule_laws.specs.Laws.{PrintedLinesAreRead}
 use Rattle.clio_rule_laws.proofs.Says.{Paired, no_pair, one_pair, SaysRule}
@@ -131,7 +131,7 @@ module _ (source target : Forest) (list : List Conversion) where
     no_fault : rules_fault source target list texts ≡ None
     same : rules_of_texts source target list texts ≡ ds
 
-  rules_back : (ds : List Rule) (texts : List RuleText) → AreTables (tables_of source) → AreTables (tables_of target) → IsOffer list → Each ds (RuleFits (model_tables source) (model_tables target)) → Each ds (AreOffered list)
+  rules_back : (ds : List Rule) (texts : List RuleText) → AreTables (tables_of source) → AreTables (tables_of target) → IsOffer list → Each ds (RuleFits (model_tables source) (model_tables target)) → Each ds (AllOffered list)
       → Paired (SaysRule source target list) ds texts → AreRulesBack ds texts
   rules_back [] [] from to offer fits offered no_pair = record { no_fault = refl; same = refl }
   rules_back [] (t ∷ texts) from to offer fits offered h = elim h [ ]

@@ -21,7 +21,7 @@ use Rattle.dx_funcs.specs.Offers.{IsOffer}
 use Rattle.dx_rule_text.specs.Printed.{variable_text, table_name}
 use Rattle.dx_tgd_text.specs.Numbering.{appeared, new_names, text_cells}
 use Rattle.dx_tgd_text.specs.Reading.{names_of_premise, known_of, fresh_of, derived_faults, derived_of_text, atoms_of_texts, rule_fault, rule_of_text}
-use Rattle.dx_tgd_text.specs.Laws.{AreOffered}
+use Rattle.dx_tgd_text.specs.Laws.{AllOffered}
 use Rattle.clio_rule_laws.proofs.Says.{Paired, existential_text, SaysCell, SaysRule}
 use Rattle.clio_rule_laws.proofs.VariableTexts.{one_variable, one_existential, variable_no_existential}
 use Rattle.clio_rule_laws.proofs.Runs.{numbered_below, run, DifferBelow, among_run, absent_run, number_run, appeared_run}
@@ -123,7 +123,7 @@ pub record IsRuleBack (source target : Forest) (list : List Conversion) (d : Rul
   pub no_fault : rule_fault source target list t ≡ None
   pub same : rule_of_text source target list t ≡ d
 
-pub rule_back : (source target : Forest) (list : List Conversion) (d : Rule) (t : RuleText) → AreTables (tables_of source) → AreTables (tables_of target) → IsOffer list → RuleFits (model_tables source) (model_tables target) d → AreOffered list d
+pub rule_back : (source target : Forest) (list : List Conversion) (d : Rule) (t : RuleText) → AreTables (tables_of source) → AreTables (tables_of target) → IsOffer list → RuleFits (model_tables source) (model_tables target) d → AllOffered list d
     → SaysRule source target list d t → IsRuleBack source target list d t
 rule_back source target list d t from to offer fits offered says =
     let rule = fits.rule in

@@ -8,7 +8,7 @@ use Rattle.dx_schema.specs.Tables.{model_tables}
 use Rattle.dx_schema_text.specs.declared.texts.MappingText.{MappingText}
 use Rattle.dx_schema_text.proofs.Answered.{one_mapping}
 use Rattle.dx_schema_text.proofs.SpelledWords.{said_is_writable}
-use Rattle.dx_tgd_text.specs.Laws.{AreOffered}
+use Rattle.dx_tgd_text.specs.Laws.{AllOffered}
 use Rattle.dx_tgd_text.specs.Reading.{rule_fault, rule_of_text, rules_of_texts}
 use Rattle.dx_tgd_text.proofs.Fits.{all_fit, all_offered, read_rules_are_offered}
 use Rattle.dx_tgd_text.proofs.Written.{texts_have_whole_rules}
@@ -24,7 +24,7 @@ one_list_behind m list ds es text p q =
     sym p.same ∙ ap (rules_of_texts m.source m.target list) said ∙ q.same
 
 pub read_is_offered : ReadIsOffered
-read_is_offered source target list d text p = subst (AreOffered list) p.same (read_rules_are_offered source target list p.said p.no_fault)
+read_is_offered source target list d text p = subst (AllOffered list) p.same (read_rules_are_offered source target list p.said p.no_fault)
 
 pub read_behind_is_offered : ReadBehindIsOffered
 read_behind_is_offered m list ds text p = all_offered m.source m.target list p.said ds (sym p.same) p.no_fault

@@ -32,7 +32,7 @@ use Rattle.clio_accept.specs.Accepting.{accepting, between_of, said_rules, targe
 use Rattle.clio_accept.specs.Laws.{MappingFits}
 use Rattle.clio_accept.proofs.Accepted.{IsTaken, accepted_fits, is_taken, checked}
 use Rattle.clio_accept.proofs.Closed.{closed_of}
-use Rattle.clio_rule_laws.specs.Shown.{AreShownAgain}
+use Rattle.clio_rule_laws.specs.Shown.{ShowsAgain}
 use Rattle.clio_rule_laws.specs.Laws.{ShownRulesAreReadAgain}
 
 -- ---- the rules
@@ -80,7 +80,7 @@ shown_rules_are_read_again list tests c text M offer small p =
     let to : AreTables (tables_of m.target) = are_tables m.target a.target.form in
     let fit : MappingFits list tests (with_rules tests (between_of m) P) = subst (MappingFits list tests) a.is (accepted_fits list tests c text M small p) in
     let writable = taken_writable text list tests m P a.is_text offer a.taken in
-    subst (AreShownAgain list text) (sym a.is) (record {
+    subst (ShowsAgain list text) (sym a.is) (record {
       said = m;
       is_text = a.is_text;
       source = refl;

@@ -29,19 +29,19 @@ use Rattle.dx_line_text.specs.Naming.{lines_of}
 use Rattle.dx_base.specs.Texts.{Text}
 use Rattle.dx_tgd_text.specs.Reading.{RuleHasFewCells, rules_of_texts as said_rules_of}
 use Rattle.dx_tgd_text.proofs.Written.{texts_have_whole_rules}
-use Rattle.clio_rule_laws.specs.ReadBack.{AreReadBehind}
+use Rattle.clio_rule_laws.specs.ReadBack.{ReadsBehind}
 use Rattle.clio_rule_laws.specs.ReadBack as read_back
 use Rattle.dx_stages.specs.Worlds.{World}
 use Rattle.dx_stages.specs.Stages.{next}
 use Rattle.dx_implies.proofs.Pruned.{left_implies}
 use Rattle.clio_accept.specs.declared.mapping.Mapping.{Mapping}
-use Rattle.clio_accept.specs.Mapping.{AreClosings, AreRulesOf, IsNarrowClosing, NoneReserved, frozen_cells, limit_of, rules_of_lines, written_of}
+use Rattle.clio_accept.specs.Mapping.{AreClosings, RulesOfLines, IsNarrowClosing, NoneReserved, frozen_cells, limit_of, rules_of_lines, written_of}
 use Rattle.clio_accept.specs.Accepting.{accepting, between_of, closing, leaving, taking, with_rules}
 use Rattle.clio_accept.specs.Laws.{MappingFits}
 use Rattle.clio_accept.proofs.Accepted.{IsRead, accepted_fits, all_rules_fit}
 use Rattle.clio_accept.proofs.Closed.{closed_of}
 use Rattle.clio_accept.proofs.Few.{narrow_sides}
-use Rattle.clio_rule_laws.specs.Shown.{AreShownAgain, rule_lines, unconditional}
+use Rattle.clio_rule_laws.specs.Shown.{ShowsAgain, rule_lines, unconditional}
 use Rattle.clio_rule_laws.specs.Laws.{ShownIsAccepted}
 use Rattle.clio_accept.proofs.Accepted.{IsTaken}
 use Rattle.clio_rule_laws.proofs.Shown.{is_accepted, shown_rules_are_read_again}
@@ -113,7 +113,7 @@ no_kept A B = ap (λ cs. map (candidate_rule [] A B) (filter (is_kept [] A B) cs
 
 -- what is left of the rules of a mapping is taken again, where a text says it between the same sides
 taken_again : (list : List Conversion) (tests : List RowTest) (m : MappingText) (P : List Rule) (said : List RuleText) → IsTaken list tests m P → Each P (λ d. IsClosed (model_tables m.target) d) → Each P HasFewAtoms
-    → said_rules_of m.source m.target list said ≡ P → AreRulesOf list m.source m.target [] said P
+    → said_rules_of m.source m.target list said ≡ P → RulesOfLines list m.source m.target [] said P
 taken_again list tests m P said t closed few same =
     let T = model_tables m.target in
     let own : AreClosings T P P = own_closings T P (λ d i. record { closing = served_is_closing T d (closed d i); premise = (few d i).premise; conclusion = (few d i).conclusion }) in
@@ -128,7 +128,7 @@ abbrev said_with : List RowTest → MappingText → List Rule → Mapping
 said_with tests m P = with_rules tests (between_of m) P
 
 accepted_again : (list : List Conversion) (tests : List RowTest) (c : World) (text sets : Text) (m : MappingText) (P : List Rule) (version : ℕ) → length text < 2 ^ 32 - 1 → IsMappingText text m → IsFaultless m.source → IsFaultless m.target → NoneReserved m.target → IsTaken list tests m P
-    → MappingFits list tests (said_with tests m P) → AreReadBehind (sides version m.source m.target) list P (sets ++ rule_lines list (said_with tests m P)) → (accepting list tests).passes c (sets ++ rule_lines list (said_with tests m P)) (unconditional (said_with tests m P))
+    → MappingFits list tests (said_with tests m P) → ReadsBehind (sides version m.source m.target) list P (sets ++ rule_lines list (said_with tests m P)) → (accepting list tests).passes c (sets ++ rule_lines list (said_with tests m P)) (unconditional (said_with tests m P))
 accepted_again list tests c text sets m P version small says source target names t fit shown =
     let whole = texts_have_whole_rules text m says in
     let read : IsRead list m = record { source = source; target = target; named = t.named; limits = t.limits; written = t.written; whole = λ r i. (whole r i).0 } in
@@ -148,7 +148,7 @@ pub shown_is_accepted : ShownIsAccepted
 shown_is_accepted list tests c text sets M version offer small p says =
     let a = is_accepted list tests c text M p in
     let fit : MappingFits list tests (said_with tests a.said a.rules) = subst (MappingFits list tests) a.is (accepted_fits list tests c text M small p) in
-    let shown = subst (AreShownAgain list text) a.is (shown_rules_are_read_again list tests c text M offer small p) in
+    let shown = subst (ShowsAgain list text) a.is (shown_rules_are_read_again list tests c text M offer small p) in
     let sets_say : IsMappingText sets (sides version a.said.source a.said.target) = subst (λ (N : Mapping). IsMappingText sets (sides version N.source N.target)) a.is says in
     subst (λ (N : Mapping). (accepting list tests).passes c (sets ++ rule_lines list N) (unconditional N)) (sym a.is)
     (accepted_again list tests c text sets a.said a.rules version small a.is_text a.source a.target a.names a.taken fit (shown.alone version sets sets_say))

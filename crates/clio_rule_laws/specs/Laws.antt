@@ -20,11 +20,11 @@ use Rattle.dx_lines.specs.Rules.{kept_rules}
 use Rattle.dx_line_text.specs.Naming.{lines_fault, lines_of}
 use Rattle.dx_rule_text.specs.Printed.{rule_text, rules_text}
 use Rattle.dx_tgd_text.specs.Reading.{RuleHasFewCells, rule_fault, rule_of_text, rules_fault, rules_of_texts}
-use Rattle.dx_tgd_text.specs.Laws.{AreOffered}
+use Rattle.dx_tgd_text.specs.Laws.{AllOffered}
 use Rattle.clio_accept.specs.declared.mapping.Mapping.{Mapping}
 use Rattle.clio_accept.specs.Accepting.{accepting}
-use Rattle.clio_rule_laws.specs.ReadBack.{IsRuleText, IsReadAs, AreReadBehind, IsPrintableRule, IsWritable}
-use Rattle.clio_rule_laws.specs.Shown.{AreShownAgain, rule_lines, unconditional}
+use Rattle.clio_rule_laws.specs.ReadBack.{IsRuleText, IsReadAs, ReadsBehind, IsPrintableRule, IsWritable}
+use Rattle.clio_rule_laws.specs.Shown.{ShowsAgain, rule_lines, unconditional}
 
 -- between two schemas with offered conversions, the text of each rule that can be printed is read as this rule
 abbrev pub PrintedRulesAreRead : Type 0
@@ -47,9 +47,9 @@ abbrev pub PrintedLinesAreRead : Type 0
 PrintedLinesAreRead =
     (text : Text) (m : MappingText) (list : List Conversion) (ds : List Rule) → IsMappingText text m
     → AreTables (tables_of m.source) → AreTables (tables_of m.target) → IsOffer list
-    → Each ds (RuleFits (model_tables m.source) (model_tables m.target)) → Each ds (AreOffered list)
+    → Each ds (RuleFits (model_tables m.source) (model_tables m.target)) → Each ds (AllOffered list)
     → Each ds (IsWritable list)
-    → AreReadBehind m list ds (text ++ (codes "\n" ++ rules_text m.source m.target list ds))
+    → ReadsBehind m list ds (text ++ (codes "\n" ++ rules_text m.source m.target list ds))
 
 -- of a rule that a mapping text says without a fault each conversion and each literal can be written
 abbrev pub SaidRulesAreWritable : Type 0
@@ -79,7 +79,7 @@ SaidRulesAreReadAgain =
     (text : Text) (m : MappingText) (list : List Conversion) → IsMappingText text m
     → AreTables (tables_of m.source) → AreTables (tables_of m.target) → IsOffer list
     → Each m.rules RuleHasFewCells → rules_fault m.source m.target list m.rules ≡ None
-    → AreReadBehind m list (rules_of_texts m.source m.target list m.rules)
+    → ReadsBehind m list (rules_of_texts m.source m.target list m.rules)
     (text ++ (codes "\n" ++ rules_text m.source m.target list (rules_of_texts m.source m.target list m.rules)))
 
 -- and those rules can be printed
@@ -103,26 +103,26 @@ OneRule =
 abbrev pub OneListBehind : Type 0
 OneListBehind =
     (m : MappingText) (list : List Conversion) (ds es : List Rule) (text : Text)
-    → AreReadBehind m list ds text → AreReadBehind m list es text → ds ≡ es
+    → ReadsBehind m list ds text → ReadsBehind m list es text → ds ≡ es
 
 -- a rule that a text is read as has listed conversions alone
 abbrev pub ReadIsOffered : Type 0
 ReadIsOffered =
     (source target : Forest) (list : List Conversion) (d : Rule) (text : Text)
-    → IsReadAs source target list d text → AreOffered list d
+    → IsReadAs source target list d text → AllOffered list d
 
 -- and so has each that is read after a mapping
 abbrev pub ReadBehindIsOffered : Type 0
 ReadBehindIsOffered =
     (m : MappingText) (list : List Conversion) (ds : List Rule) (text : Text)
-    → AreReadBehind m list ds text → Each ds (AreOffered list)
+    → ReadsBehind m list ds text → Each ds (AllOffered list)
 
 -- the rules of each accepted text of fewer than 4,294,967,295 bytes are read again
 abbrev pub ShownRulesAreReadAgain : Type 0
 ShownRulesAreReadAgain =
     (list : List Conversion) (tests : List RowTest) (c : World) (text : Text) (M : Mapping)
     → IsOffer list → length text < 2 ^ 32 - 1 → (accepting list tests).passes c text M
-    → AreShownAgain list text M
+    → ShowsAgain list text M
 
 -- and each text that says its sets alone, in whatever version, with the lines of its rules after it, is accepted with
 -- the same mapping, without its conditions

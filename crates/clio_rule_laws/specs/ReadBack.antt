@@ -18,7 +18,7 @@ use Rattle.dx_schema_text.specs.Texts.{IsMappingText}
 use Rattle.dx_schema_text.specs.Spelling.{SpellsRule}
 use Rattle.dx_rule_text.specs.Printed.{table_name}
 use Rattle.dx_tgd_text.specs.Reading.{rule_fault, rule_of_text, rules_fault, rules_of_texts}
-use Rattle.dx_tgd_text.specs.Laws.{AreOffered}
+use Rattle.dx_tgd_text.specs.Laws.{AllOffered}
 
 -- the text says this rule: all of it is tokens, which spell the rule
 pub record IsRuleText (text : Text) (r : RuleText) : Type 0 where
@@ -57,7 +57,7 @@ pub record IsWritable (list : List Conversion) (d : Rule) : Type 0 where
 -- a rule that is read again when it is printed: it fits the schemas, its conversions are listed, and it can be written
 pub record IsPrintableRule (source target : Forest) (list : List Conversion) (d : Rule) : Type 0 where
   pub fits : RuleFits (model_tables source) (model_tables target) d
-  pub offered : AreOffered list d
+  pub offered : AllOffered list d
   pub named : HasNamedTables source target d
   pub writable : IsWritable list d
 
@@ -67,7 +67,7 @@ with_more_rules m rules = record m { rules = m.rules ++ rules }
 
 -- the text is read as a mapping with these rules after its own: it says the mapping and rules without a fault, which
 -- are these by the numbers of what they name
-pub record AreReadBehind (m : MappingText) (list : List Conversion) (ds : List Rule) (text : Text) : Type 0 where
+pub record ReadsBehind (m : MappingText) (list : List Conversion) (ds : List Rule) (text : Text) : Type 0 where
   pub said : List RuleText
   pub is_text : IsMappingText text (with_more_rules m said)
   pub no_fault : rules_fault m.source m.target list said ≡ None

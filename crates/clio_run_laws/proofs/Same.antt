@@ -7,7 +7,7 @@ use Rattle.dx_schema.specs.Tables.{model_tables}
 use Rattle.dx_exchange.specs.declared.mode.Mode.{Mode}
 use Rattle.dx_exchange.specs.declared.mode.Mode.TheVariants.{Plain, Core}
 use Rattle.dx_exchange.specs.declared.result.Exchange.{Exchange}
-use Rattle.dx_core_laws.specs.Isomorphic.{AreOfOneSource}
+use Rattle.dx_core_laws.specs.Isomorphic.{OfOneSource}
 use Rattle.dx_core_laws.proofs.Exchanged.{core_mode_is_one, plain_is_one}
 use Rattle.clio_files.specs.Files.{AreFiles}
 use Rattle.clio_files.proofs.OneList.{one_list_of_files}
@@ -17,7 +17,7 @@ use Rattle.clio_steps.proofs.Spine.{one_read}
 use Rattle.clio_run_laws.specs.Laws.{CoreRunsAreAlike, PlainRunsAreOne}
 
 one_source : (P : Program) (mode : Mode) (c : World) (p q : MappingAndRows) → ReadIn P c p.0 p.1 → ReadIn P c q.0 q.1
-    → AreOfOneSource (exchange_input mode p) (exchange_input mode q)
+    → OfOneSource (exchange_input mode p) (exchange_input mode q)
 one_source P mode c p q r s =
     let is = one_read P c p q r s in record {
       rules = ap (λ (k : MappingAndRows). k.0.rules) is;

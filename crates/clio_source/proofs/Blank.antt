@@ -18,7 +18,7 @@ use Rattle.dx_used.specs.Used.{Marks, blanked, fact_blanked, marks_at}
 use Rattle.dx_used.proofs.Blanking.{blanked_twice}
 use Rattle.clio_source.specs.declared.reading.Reading.{Reading}
 use Rattle.clio_source.specs.Source.{as_facts, flat, shape_at, nested, roots}
-use Rattle.clio_source.specs.Agreeing.{AreBlank, IsFlatRoot}
+use Rattle.clio_source.specs.Agreeing.{AllBlanked, IsFlatRoot}
 use Rattle.clio_source.specs.Fitting.{AddsEmpty, AddsFacts, UnusedAreBlank, ReadFits, rows_shown}
 use Rattle.clio_source.proofs.Fits.{many_tables}
 use Rattle.clio_source.proofs.Numbers.{facts_of_one, facts_with_empty}
@@ -102,5 +102,5 @@ blank_document used f root last before after between said lt parent formed end a
 
 -- ---- the instance
 
-pub blank_sorted : (used : Marks) (f : Forest) (r : Reading) (J : List TableRows) → IsSorting (shown_tables r.symbols r.tables.items) J → UnusedAreBlank used f r → AreBlank used f (facts J)
+pub blank_sorted : (used : Marks) (f : Forest) (r : Reading) (J : List TableRows) → IsSorting (shown_tables r.symbols r.tables.items) J → UnusedAreBlank used f r → AllBlanked used f (facts J)
 blank_sorted used f r J s h = λ fact m is. h fact ((sorting_facts (shown_tables r.symbols r.tables.items) J s).0 fact m) is

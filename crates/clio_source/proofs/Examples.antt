@@ -6,7 +6,7 @@ use Rattle.dx_model.specs.declared.values.Value.TheVariants.{Const}
 use Rattle.dx_model.specs.declared.facts.Fact.{Fact}
 use Rattle.dx_schema.specs.Forest.{Forest, none, set, bare_set}
 use Rattle.dx_used.specs.Used.{Marks, fact_blanked}
-use Rattle.clio_source.specs.Agreeing.{AreBlank, IsFlatRoot}
+use Rattle.clio_source.specs.Agreeing.{AllBlanked, IsFlatRoot}
 use Rattle.dx_stages.specs.Worlds.{World}
 use Rattle.clio_source.specs.Source.{ReadState, SaysSourceFacts, as_facts, fact_cells, fetching, file_at, flat, roots, too_many_bytes, too_many_cells, with_facts}
 
@@ -88,7 +88,7 @@ abbrev unused : Marks
 unused = (true ∷ false ∷ []) ∷ (true ∷ true ∷ true ∷ []) ∷ (false ∷ []) ∷ []
 
 -- nothing stands there in the cities, which come of a flat root; the departments come of a document and stay
-blank_cities : AreBlank unused depts
+blank_cities : AllBlanked unused depts
     (record { table = 2; row = Const [] ∷ [] }
     ∷ record { table = 0; row = Const (codes "0") ∷ Const (codes "cs") ∷ [] } ∷ [])
 blank_cities f (here e) h = subst (λ (x : Fact). fact_blanked unused x ≡ x) e refl
@@ -96,7 +96,7 @@ blank_cities f (there (here e)) h =
     absurd (nested_departments (subst (λ (x : Fact). IsFlatRoot depts x.table) (sym e) h))
 blank_cities f (there (there m)) h = elim m [ ]
 
-no_rome : ¬ (AreBlank unused depts (record { table = 2; row = Const (codes "rome") ∷ [] } ∷ []))
+no_rome : ¬ (AllBlanked unused depts (record { table = 2; row = Const (codes "rome") ∷ [] } ∷ []))
 no_rome h =
     let e : Const [] ∷ []
     ≡ Const (codes "rome")

@@ -12,7 +12,7 @@ use Rattle.dx_model.specs.declared.facts.Fact.{Fact}
 use Rattle.dx_model.specs.Tables.{IsInstance, Table}
 use Rattle.dx_instance.specs.Cells.{NumberTable}
 use Rattle.dx_instance.specs.Numbers.{Extends}
-use Rattle.dx_instance.specs.Shown.{AreBelow, NumberRowsFit, numbers_of_table, shown_tables}
+use Rattle.dx_instance.specs.Shown.{NumbersBelow, NumberRowsFit, numbers_of_table, shown_tables}
 use Rattle.dx_instance.specs.Stored.{IsSorting, TableRows, facts, widths}
 use Rattle.dx_instance.proofs.StoredFacts.{sorting_facts}
 use Rattle.dx_schema.specs.Forest.{Forest}
@@ -47,7 +47,7 @@ many_tables f n r le fit =
     sym (length-map r.tables.items width_of) ∙ ap length fit.widths ∙ length-take-le n (schema_widths f) (omega (arith, le, length-map (tables_of f) (λ (t : TableOf). length t.columns)))
 
 pub fit_more : (f : Forest) (n : ℕ) (before after : Reading) (t : NumberTable) → ReadFits f n before → n < length (tables_of f) → Extends before.symbols after.symbols
-    → after.tables.items ≡ before.tables.items ++ t ∷ [] → t.width ≡ length (schema_table f n).columns → 1 ≤ t.width → Each t.rows (AreBelow (length after.symbols)) → after.cells_left ≤ before.cells_left → ReadFits f (n + 1) after
+    → after.tables.items ≡ before.tables.items ++ t ∷ [] → t.width ≡ length (schema_table f n).columns → 1 ≤ t.width → Each t.rows (NumbersBelow (length after.symbols)) → after.cells_left ≤ before.cells_left → ReadFits f (n + 1) after
 fit_more f n before after t fit h x e wide some below cells = record {
   widths = widths_more f (map width_of before.tables.items) (map width_of after.tables.items) n t.width h wide fit.widths (ap (map width_of) e ∙ map-append width_of before.tables.items (t ∷ []));
   below = each;

@@ -8,7 +8,7 @@ use Rattle.dx_model.specs.declared.values.Value.{Value}
 use Rattle.dx_model.specs.declared.facts.Fact.{Fact}
 use Rattle.dx_instance.specs.Cells.{NumberTable, with_numbers}
 use Rattle.dx_instance.specs.Numbers.{Extends}
-use Rattle.dx_instance.specs.Shown.{AreBelow, NumberRowsFit, Shows, numbers_of_table, shown, shown_row, shown_tables}
+use Rattle.dx_instance.specs.Shown.{NumbersBelow, NumberRowsFit, Shows, numbers_of_table, shown, shown_row, shown_tables}
 use Rattle.dx_instance.specs.Stored.{AddsRow, TableRows, facts, facts_from, rows_of, widths}
 use Rattle.dx_instance.proofs.ShownFacts.{grown_below, grown_rows, grown_fitting, from_set, table_read}
 use Rattle.dx_instance.proofs.StoredFacts.{fact_from_row, row_from_fact}
@@ -212,11 +212,11 @@ one_put S T U ts now after first said k fact t numbers p c lt at read grows show
     there_fits : NumberRowsFit (length T) t
     there_fits = p.below t (subst (λ (u : NumberTable). u ∈ now) (sym read) (in_at now fact.table t there_is))
 
-    last : (r : List ℕ) → r ∈ (numbers ∷ []) → AreBelow (length U) r
-    last r (here e) = subst (AreBelow (length U)) e shows.within
+    last : (r : List ℕ) → r ∈ (numbers ∷ []) → NumbersBelow (length U) r
+    last r (here e) = subst (NumbersBelow (length U)) e shows.within
     last r (there m) = elim m [ ]
 
-    rows_fit : (r : List ℕ) → r ∈ (t.rows ++ numbers ∷ []) → AreBelow (length U) r
+    rows_fit : (r : List ℕ) → r ∈ (t.rows ++ numbers ∷ []) → NumbersBelow (length U) r
     rows_fit r m = elim (from_append t.rows m) [ inl old ↦ grown_below T U r grows (there_fits.within r old) | inr new ↦ last r new ]
 
     below : Each (set now fact.table (with_numbers t numbers)) (NumberRowsFit (length U))

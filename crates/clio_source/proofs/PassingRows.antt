@@ -18,7 +18,7 @@ use Rattle.dx_model.specs.declared.values.Value.TheVariants.{Const, Null}
 use Rattle.dx_model.specs.declared.facts.Fact.{Fact}
 use Rattle.dx_instance.specs.Cells.{NumberTable, numbers_at, with_numbers}
 use Rattle.dx_instance.specs.Numbers.{value_of}
-use Rattle.dx_instance.specs.Shown.{AreBelow, NumbersFit, PartsFit, NumberRowsFit, numbers_of_table, shown, shown_row, shown_tables}
+use Rattle.dx_instance.specs.Shown.{NumbersBelow, NumbersFit, PartsFit, NumberRowsFit, numbers_of_table, shown, shown_row, shown_tables}
 use Rattle.dx_instance.specs.Stored.{IsSorting, TableRows, facts, rows_of, widths}
 use Rattle.dx_instance.proofs.ShownFacts.{is_shown}
 use Rattle.dx_instance.proofs.StoredFacts.{fact_from_row, fact_table, row_from_fact, sorting_facts}
@@ -31,7 +31,7 @@ no_numbers = record { width = 0; rows = [] }
 
 -- ---- the value in a column
 
-pub number_there : (n : ℕ) (row : List ℕ) (i x : ℕ) → AreBelow n row → i < length row → x ≡ get_or row i x → x < n
+pub number_there : (n : ℕ) (row : List ℕ) (i x : ℕ) → NumbersBelow n row → i < length row → x ≡ get_or row i x → x < n
 number_there n row i x below h e = below x (item_in row i x h e)
 
 shown_there : (S : List Value) (row : List ℕ) (i x : ℕ) → i < length row → x ≡ get_or row i x → slice_get (shown_row S row) i ≡ Some (value_of S x)

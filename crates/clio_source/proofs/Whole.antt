@@ -20,7 +20,7 @@ use Rattle.dx_used.proofs.Blanking.{agree_same}
 use Rattle.dx_used.proofs.PassingLaws.{same_passing}
 use Rattle.clio_source.specs.declared.fault.SourceRefusal.{SourceRefusal}
 use Rattle.clio_source.specs.declared.reading.Reading.{Reading}
-use Rattle.clio_source.specs.Agreeing.{AreBlank, RanAgreeing}
+use Rattle.clio_source.specs.Agreeing.{AllBlanked, RanAgreeing}
 use Rattle.clio_source.specs.Kept.{IsPassing}
 use Rattle.clio_source.specs.Source.{ReadState, SourceRequest, at_start, files_stages, source_left, storing}
 use Rattle.clio_source.specs.Fitting.{Holds, UnusedAreBlank, RanTo, ReadFits}
@@ -79,6 +79,6 @@ source_passes passes used w r I J old new ran named fit sorted passed =
 
 -- what is blank stays so
 pub source_blank : (passes : Passes) (used : Marks) (w : SourceRequest) (r : Reading) (I J : List TableRows) → IsSorting (shown_tables r.symbols r.tables.items) I → IsPassing passes w.conditions I J
-    → UnusedAreBlank used w.schema r → AreBlank used w.schema (facts J)
+    → UnusedAreBlank used w.schema r → AllBlanked used w.schema (facts J)
 source_blank passes used w r I J sorted passed blank fact m is =
     blank_sorted used w.schema r I sorted blank fact (from_filter (λ (g : Fact). list_all (fact_passes passes g) w.conditions) (facts I) (passed.exact.0 fact m)).0 is

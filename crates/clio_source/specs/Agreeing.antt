@@ -25,5 +25,5 @@ abbrev pub IsFlatRoot : Forest → ℕ → Type 0
 IsFlatRoot f table = (table ∈ roots f) × (flat ≡ shape_at f table)
 
 -- in the columns of flat roots that are not used the facts have nothing but the empty constant
-abbrev pub AreBlank : Marks → Forest → List Fact → Type 0
-AreBlank used f facts = Each facts (λ (fact : Fact). IsFlatRoot f fact.table → fact_blanked used fact ≡ fact)
+abbrev pub AllBlanked : Marks → Forest → List Fact → Type 0
+AllBlanked used f facts = Each facts (λ (fact : Fact). IsFlatRoot f fact.table → fact_blanked used fact ≡ fact)

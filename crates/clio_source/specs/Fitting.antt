@@ -20,7 +20,7 @@ use Rattle.clio_source.specs.declared.fault.RowsFault.{RowsFault}
 use Rattle.clio_source.specs.declared.fault.SourceRefusal.{SourceRefusal}
 use Rattle.clio_source.specs.declared.fault.SourceRefusal.TheVariants as refusals
 use Rattle.clio_source.specs.Source.{RootShape, HaveFault, ReadState, fact_cells, source_cells}
-use Rattle.clio_source.specs.Agreeing.{AreBlank}
+use Rattle.clio_source.specs.Agreeing.{AllBlanked}
 
 -- the rows that numbers of symbols show
 abbrev pub rows_shown : List Value → NumberTable → List (List Value)
@@ -40,7 +40,7 @@ pub record Holds (used : Marks) (r : Reading) (q : ReadState) : Type 0 where
 
 -- nothing is in the columns of flat roots that are not used
 abbrev pub UnusedAreBlank : Marks → Forest → Reading → Type 0
-UnusedAreBlank used f r = AreBlank used f (facts (shown_tables r.symbols r.tables.items))
+UnusedAreBlank used f r = AllBlanked used f (facts (shown_tables r.symbols r.tables.items))
 
 -- the stage ran so, and the tables agree with what it passes
 abbrev pub RanTo : {A : Type 0} → Marks → Stage SourceRefusal A ReadState → A

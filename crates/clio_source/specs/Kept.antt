@@ -15,8 +15,8 @@ abbrev pub IsListedTest : List RowTest → ℕ → Type 0
 IsListedTest list code = code ∈ map (λ (t : RowTest). t.code) list
 
 -- each condition asks for a test that is listed
-abbrev pub AreTested : List RowTest → List Condition → Type 0
-AreTested list conditions = Each conditions (λ c. IsListedTest list c.code)
+abbrev pub AllTestsListed : List RowTest → List Condition → Type 0
+AllTestsListed list conditions = Each conditions (λ c. IsListedTest list c.code)
 
 -- the same tables with just the facts that pass
 pub record IsPassing (passes : Passes) (conditions : List Condition) (I J : List TableRows) : Type 0 where

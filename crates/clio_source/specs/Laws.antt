@@ -6,7 +6,7 @@ use Rattle.dx_stages.specs.Laws.{IsDecided, PassesOne}
 use Rattle.dx_stages.specs.Running.{Ran}
 use Rattle.dx_stages.specs.Worlds.{World}
 use Rattle.dx_schema.specs.Forest.{Forest}
-use Rattle.dx_schema.specs.Inner.{AreAscending}
+use Rattle.dx_schema.specs.Inner.{PlacesAscend}
 use Rattle.dx_schema.specs.Tables.{schema_table, tables_of}
 use Rattle.dx_instance.specs.Stored.{TableRows, facts}
 use Rattle.dx_used.specs.Passing.{Passes}
@@ -35,12 +35,12 @@ SourceIsOfBoth =
     → (source_stages passes).passes c w I ↔ ((left : ℕ) × (source_left passes).passes c w (I, left))
 
 -- the roots of a schema are its tables without a parent, in order
-pub record AreRootSets (f : Forest) : Type 0 where
+pub record ListsRoots (f : Forest) : Type 0 where
   pub exact : (t : ℕ) → t ∈ roots f ↔ ((t < length (tables_of f)) × ((schema_table f t).parent ≡ None))
-  pub ascending : AreAscending (roots f)
+  pub ascending : PlacesAscend (roots f)
 
 abbrev pub RootsHaveNoParent : Type 0
-RootsHaveNoParent = (f : Forest) → AreRootSets f
+RootsHaveNoParent = (f : Forest) → ListsRoots f
 
 -- if no column has a mark, what is read has just the facts of what the stages pass
 abbrev pub AllIsRead : Type 0

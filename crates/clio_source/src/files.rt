@@ -4,8 +4,8 @@ ghost use Rattle.dx_schema.specs.Tables.{count, tables_of, tree_at};
 ghost use Rattle.dx_funcs.specs.Judging.{Decides, tested};
 ghost use Rattle.dx_instance.specs.Stored.{facts};
 ghost use Rattle.dx_used.specs.Named.{ReadNamed};
-ghost use Rattle.clio_source.specs.Agreeing.{AreBlank, RanAgreeing};
-ghost use Rattle.clio_source.specs.Kept.{AreTested};
+ghost use Rattle.clio_source.specs.Agreeing.{AllBlanked, RanAgreeing};
+ghost use Rattle.clio_source.specs.Kept.{AllTestsListed};
 ghost use Rattle.clio_source.specs.Source.{IsRoot, ReadState, at_start, file_at, files_stages, reading, source_left};
 ghost use Rattle.clio_source.specs.Fitting.{Holds, UnusedAreBlank, RanTo, ReadFits};
 
@@ -122,11 +122,11 @@ where
     P: Fn(u32, &Text) -> Result<bool, AllocError>,
     M: Meaning,
     requires decides { Decides P.Fn M.passes tests.now }
-    requires listed { AreTested (tested tests.now) conditions.now }
+    requires listed { AllTestsListed (tested tests.now) conditions.now }
     requires named { ReadNamed used.now conditions.now }
     ensures read { RanAgreeing used.now (source_left M.passes) (record { schema = schema.now; conditions = conditions.now }) result
         (I.state inputs.old) (I.state inputs.new) }
-    ensures blank { IfOk result (λ q. AreBlank used.now schema.now (facts q.0)) }
+    ensures blank { IfOk result (λ q. AllBlanked used.now schema.now (facts q.0)) }
 {
     let reading = read_files(alloc, inputs, schema, used)?;
     let rows = Instance::from_gathered(alloc, reading.symbols, reading.tables)?;

@@ -1,9 +1,9 @@
 // The rows that pass conditions.
 ghost use Rattle.std.specs.Prelude.{◌≡◌, ◌<◌, IfOk, length, slice_get};
 ghost use Rattle.dx_funcs.specs.Judging.{Decides, tested};
-ghost use Rattle.dx_instance.specs.Shown.{AreBelow, numbers_of_table, shown_row};
+ghost use Rattle.dx_instance.specs.Shown.{NumbersBelow, numbers_of_table, shown_row};
 ghost use Rattle.dx_used.specs.Passing.{fact_passes, value_passes};
-ghost use Rattle.clio_source.specs.Kept.{AreTested, IsPassing, IsListedTest, row_passes, rows_kept};
+ghost use Rattle.clio_source.specs.Kept.{AllTestsListed, IsPassing, IsListedTest, row_passes, rows_kept};
 
 use dx_base::Text;
 use dx_funcs::{Meaning, Tests};
@@ -23,7 +23,7 @@ where
     M: Meaning,
     requires decides { Decides P.Fn M.passes tests.now }
     requires listed { IsListedTest (tested tests.now) condition.now.code }
-    requires below { AreBelow (length numbers.now.symbols) row.now }
+    requires below { NumbersBelow (length numbers.now.symbols) row.now }
     ensures { IfOk result (λ b. b ≡ value_passes M.passes condition.now.code
         (slice_get (shown_row numbers.now.symbols row.now) condition.now.place.column)) }
 {
@@ -49,7 +49,7 @@ where
     M: Meaning,
     requires decides { Decides P.Fn M.passes tests.now }
     requires listed { IsListedTest (tested tests.now) condition.now.code }
-    requires below { AreBelow (length numbers.now.symbols) row.now }
+    requires below { NumbersBelow (length numbers.now.symbols) row.now }
     ensures { IfOk result (λ b. b ≡ fact_passes M.passes
         (record { table = table; row = shown_row numbers.now.symbols row.now }) condition.now) }
 {
@@ -72,8 +72,8 @@ where
     P: Fn(u32, &Text) -> Result<bool, AllocError>,
     M: Meaning,
     requires decides { Decides P.Fn M.passes tests.now }
-    requires listed { AreTested (tested tests.now) conditions.now }
-    requires below { AreBelow (length numbers.now.symbols) row.now }
+    requires listed { AllTestsListed (tested tests.now) conditions.now }
+    requires below { NumbersBelow (length numbers.now.symbols) row.now }
     ensures { IfOk result (λ b. b ≡ row_passes M.passes conditions.now numbers.now.symbols table row.now) }
 {
     for condition in conditions {
@@ -96,7 +96,7 @@ where
     P: Fn(u32, &Text) -> Result<bool, AllocError>,
     M: Meaning,
     requires decides { Decides P.Fn M.passes tests.now }
-    requires listed { AreTested (tested tests.now) conditions.now }
+    requires listed { AllTestsListed (tested tests.now) conditions.now }
     requires table { table < length numbers.now.tables }
     ensures { IfOk result (λ rows. rows ≡ rows_kept (row_passes M.passes conditions.now numbers.now.symbols table)
         (numbers_of_table numbers.now.tables table)) }
@@ -122,7 +122,7 @@ where
     P: Fn(u32, &Text) -> Result<bool, AllocError>,
     M: Meaning,
     requires decides { Decides P.Fn M.passes tests.now }
-    requires listed { AreTested (tested tests.now) conditions.now }
+    requires listed { AllTestsListed (tested tests.now) conditions.now }
     ensures { IfOk result (IsPassing M.passes conditions.now rows.now) }
 {
     let numbers = rows.numbers();
@@ -144,7 +144,7 @@ where
     P: Fn(u32, &Text) -> Result<bool, AllocError>,
     M: Meaning,
     requires decides { Decides P.Fn M.passes tests.now }
-    requires listed { AreTested (tested tests.now) conditions.now }
+    requires listed { AllTestsListed (tested tests.now) conditions.now }
     ensures { IfOk result (IsPassing M.passes conditions.now rows) }
 {
     if conditions.is_empty() {

@@ -3,7 +3,7 @@ ghost use Rattle.std.specs.Prelude.{◌≡◌, ◌+◌, ◌<◌, length, IfOk, I
 ghost use Rattle.dx_base.specs.Members.{Each};
 ghost use Rattle.dx_schema.specs.Tables.{schema_table, tables_of};
 ghost use Rattle.dx_instance.specs.Numbers.{Extends};
-ghost use Rattle.dx_instance.specs.Shown.{AreBelow};
+ghost use Rattle.dx_instance.specs.Shown.{NumbersBelow};
 ghost use Rattle.dx_used.specs.Used.{marks_at};
 ghost use Rattle.dx_csv.specs.Blanks.{IsTableUsed};
 ghost use Rattle.dx_csv.specs.Table.{table_records};
@@ -43,7 +43,7 @@ fn rows_of_bytes(
     ensures rows { IfOk result (λ rows. IsTableUsed used.now (table_records bytes.now) (schema_table schema.now root).columns
         (rows_shown symbols.new rows)) }
     ensures width { IfOk result (λ rows. rows.width ≡ length (schema_table schema.now root).columns) }
-    ensures below { IfOk result (λ rows. Each rows.rows (AreBelow (length symbols.new))) }
+    ensures below { IfOk result (λ rows. Each rows.rows (NumbersBelow (length symbols.new))) }
     ensures grows { Extends symbols.old symbols.new }
     ensures fault { IfErr result (NotRead flat schema.now root bytes.now file) }
 {

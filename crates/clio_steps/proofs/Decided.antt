@@ -8,7 +8,7 @@ use Rattle.dx_schema.specs.Forest.{Forest}
 use Rattle.dx_schema.specs.Tables.{model_tables, schema_widths}
 use Rattle.dx_exchange.specs.declared.result.Exchange.{Exchange}
 use Rattle.dx_exchange.specs.declared.mode.Mode.{Mode}
-use Rattle.dx_exchange.specs.Exchanging.{AreAlikeFaults as FaultsAlike, IsExchange, exchanging}
+use Rattle.dx_exchange.specs.Exchanging.{ClashesAlike as FaultsAlike, IsExchange, exchanging}
 use Rattle.dx_exchange.specs.Laws.{RulesOfInputFit}
 use Rattle.dx_exchange.specs.declared.fault.ExFault.{ExFault}
 use Rattle.dx_exchange.specs.declared.fault.ExFault.TheVariants as exchange_faults
@@ -65,11 +65,11 @@ rows_decided P Given =
 
 -- ---- the target
 
-unfoldable pub AreReady : Program → MappingAndRows → Type 0
-AreReady P p = MappingFits P.list P.tests p.0
+unfoldable pub PairReady : Program → MappingAndRows → Type 0
+PairReady P p = MappingFits P.list P.tests p.0
 
-pub target_decided : (P : Program) (mode : Mode) → IsDecided AreAlike (AreReady P) (by (named_stage P.apply mode))
-unfolding AreReady
+pub target_decided : (P : Program) (mode : Mode) → IsDecided AreAlike (PairReady P) (by (named_stage P.apply mode))
+unfolding PairReady
 target_decided P mode = record {
   one = λ c p e f r. (asked_decided p.0.source p.0.target).one c (exchange_input mode p) e f (rules_fit P p.0 r);
   never_both = λ c p b e r. (asked_decided p.0.source p.0.target).never_both c (exchange_input mode p) b e (rules_fit P p.0 r);
@@ -98,15 +98,15 @@ FitsList : Program → Mapping → Type 0
 FitsList P M = MappingFits P.list P.tests M
 
 pub exchanges_decided : (P : Program) (mode : Mode) → IsDecided AreAlike Any (exchanges P mode)
-unfolding FitsList AreReady
+unfolding FitsList PairReady
 exchanges_decided P mode =
     next_decided AreAlike Any (FitsList P) (mapping_stages P) (next (rows_stages P) (target_stages P mode)) (text_one P First)
     (λ c a M g p. accepted_fits P.list P.tests c p.0 M (is_small p.0 p.1.1) p.2) (text_decided P First)
-    (next_decided AreAlike (FitsList P) (AreReady P) (rows_stages P) (target_stages P mode) (rows_one P) rows_ready (rows_decided P (FitsList P))
-    (into_decided AreAlike (AreReady P) (λ (p : MappingAndRows) (e : Exchange). (p.0, e)) (by (named_stage P.apply mode)) (target_decided P mode)))
+    (next_decided AreAlike (FitsList P) (PairReady P) (rows_stages P) (target_stages P mode) (rows_one P) rows_ready (rows_decided P (FitsList P))
+    (into_decided AreAlike (PairReady P) (λ (p : MappingAndRows) (e : Exchange). (p.0, e)) (by (named_stage P.apply mode)) (target_decided P mode)))
   where
-    rows_ready : (c : World) (M : Mapping) (p : MappingAndRows) → FitsList P M → (rows_stages P).passes c M p → AreReady P p
-    rows_ready c M p h (I, s, is) = subst (AreReady P) (sym is) h
+    rows_ready : (c : World) (M : Mapping) (p : MappingAndRows) → FitsList P M → (rows_stages P).passes c M p → PairReady P p
+    rows_ready c M p h (I, s, is) = subst (PairReady P) (sym is) h
 
 -- what is known of an exchange that was made
 pub record IsMade (P : Program) (mode : Mode) (M : Mapping) (e : Exchange) : Type 0 where

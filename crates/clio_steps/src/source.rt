@@ -5,7 +5,7 @@ ghost use Rattle.dx_funcs.specs.Judging.{Decides, tested};
 ghost use Rattle.dx_used.specs.Named.{ReadNamed};
 ghost use Rattle.dx_used.specs.Used.{Marks, UsesOnly};
 ghost use Rattle.clio_source.specs.Agreeing.{RanAgreeing};
-ghost use Rattle.clio_source.specs.Kept.{AreTested};
+ghost use Rattle.clio_source.specs.Kept.{AllTestsListed};
 ghost use Rattle.clio_source.specs.Source.{source_left};
 ghost use Rattle.clio_ending.specs.Ending.{source_refusal};
 ghost use Rattle.clio_steps.specs.Steps.{wanted};
@@ -33,7 +33,7 @@ where
     P: Fn(u32, &Text) -> Result<bool, AllocError>,
     M: Meaning,
     requires decides { Decides P.Fn M.passes tests.now }
-    requires listed { AreTested (tested tests.now) mapping.now.conditions }
+    requires listed { AllTestsListed (tested tests.now) mapping.now.conditions }
     requires named { ReadNamed used.now mapping.now.conditions }
     ensures { RanAgreeing used.now (saying source_refusal (source_left M.passes)) (wanted mapping.now) result
         (I.state inputs.old) (I.state inputs.new) }
@@ -54,7 +54,7 @@ where
     P: Fn(u32, &Text) -> Result<bool, AllocError>,
     M: Meaning,
     requires decides { Decides P.Fn M.passes tests.now }
-    requires listed { AreTested (tested tests.now) mapping.now.conditions }
+    requires listed { AllTestsListed (tested tests.now) mapping.now.conditions }
     ensures { (used : Marks) × Each mapping.now.rules (UsesOnly used)
         × RanAgreeing used (saying source_refusal (source_left M.passes)) (wanted mapping.now) result
         (I.state inputs.old) (I.state inputs.new) }

@@ -6,7 +6,7 @@ use Rattle.std.specs.Char.Escape.{hex_digit_at}
 use Rattle.std.proofs.lemmas.Bool.{cond-false, cond_both, false_from_ne_true, leb-true, ltb-true, ltb-false, ne_eqb, true≢false}
 use Rattle.std.proofs.lemmas.List.Elements.{All-append, All-cons, All-head, All-nil, All-tail}
 use Rattle.clio_terminal.specs.Shown.{escape_unicode, is_harmful, shown, shown_character, turns_direction}
-use Rattle.clio_terminal.specs.Laws.{AreHarmless, HarmlessStays, ShownIsHarmless}
+use Rattle.clio_terminal.specs.Laws.{AllHarmless, HarmlessStays, ShownIsHarmless}
 
 -- ---- tests
 
@@ -52,21 +52,21 @@ hex : (p c : ℕ) → is_harmful (hex_digit_at p c) ≡ false
 hex p c = digit (c / p % 16) (omega arith)
 
 -- a digit before digits, and what stands around them
-one : (p c : ℕ) (cs : List ℕ) → AreHarmless cs → AreHarmless (hex_digit_at p c ∷ cs)
+one : (p c : ℕ) (cs : List ℕ) → AllHarmless cs → AllHarmless (hex_digit_at p c ∷ cs)
 one p c cs rest = All-cons (λ x. is_harmful x ≡ false) (hex_digit_at p c) cs (hex p c) rest
 
 abbrev braces : List ℕ → List ℕ
 braces cs = 92 ∷ 117 ∷ 123 ∷ cs
 
-close : AreHarmless (125 ∷ [])
+close : AllHarmless (125 ∷ [])
 close = All-cons (λ x. is_harmful x ≡ false) 125 [] refl (All-nil (λ x. is_harmful x ≡ false))
 
-braced : (cs : List ℕ) → AreHarmless cs → AreHarmless (braces cs)
+braced : (cs : List ℕ) → AllHarmless cs → AllHarmless (braces cs)
 braced cs rest =
     All-cons (λ x. is_harmful x ≡ false) 92 (117 ∷ 123 ∷ cs) refl
     (All-cons (λ x. is_harmful x ≡ false) 117 (123 ∷ cs) refl (All-cons (λ x. is_harmful x ≡ false) 123 cs refl rest))
 
-either : (b : Bool) (xs ys : List ℕ) → AreHarmless xs → AreHarmless ys → AreHarmless (cond b xs ys)
+either : (b : Bool) (xs ys : List ℕ) → AllHarmless xs → AllHarmless ys → AllHarmless (cond b xs ys)
 either true xs ys left right = left
 either false xs ys left right = right
 
@@ -101,7 +101,7 @@ from3 c = cond (nat_lt c 0x1000) (braces (last3 c)) (from4 c)
 abbrev from2 : ℕ → List ℕ
 from2 c = cond (nat_lt c 0x100) (braces (last2 c)) (from3 c)
 
-escaped : (c : ℕ) → AreHarmless (escape_unicode c)
+escaped : (c : ℕ) → AllHarmless (escape_unicode c)
 escaped c =
     let d1 = one 1 c (125 ∷ []) close in
     let d2 = one 0x10 c (last1 c) d1 in
@@ -118,9 +118,9 @@ escaped c =
 
 -- ---- the laws
 
-of_one : (c : ℕ) → AreHarmless (shown_character c)
+of_one : (c : ℕ) → AllHarmless (shown_character c)
 of_one c =
-    cond_both (is_harmful c) (escape_unicode c) (c ∷ []) AreHarmless (λ _. escaped c)
+    cond_both (is_harmful c) (escape_unicode c) (c ∷ []) AllHarmless (λ _. escaped c)
     (λ f. All-cons (λ x. is_harmful x ≡ false) c [] f (All-nil (λ x. is_harmful x ≡ false)))
 
 pub shown_is_harmless : ShownIsHarmless

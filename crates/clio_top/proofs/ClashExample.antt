@@ -49,7 +49,7 @@ use Rattle.dx_exchange.specs.declared.mode.Mode.TheVariants.{Core, Plain}
 use Rattle.dx_exchange.specs.Exchanging.{HasClash, meant}
 use Rattle.clio_accept.specs.declared.mapping.Mapping.{Mapping}
 use Rattle.clio_accept.specs.Accepting.{accepting, between_of, taking}
-use Rattle.clio_accept.specs.Mapping.{AreRulesOf, NoneReserved}
+use Rattle.clio_accept.specs.Mapping.{RulesOfLines, NoneReserved}
 use Rattle.clio_ending.specs.declared.ending.Refusal.{Refusal}
 use Rattle.clio_ending.specs.declared.ending.Refusal.TheVariants as refusals
 use Rattle.clio_ending.specs.Ending.{named_clash}
@@ -271,7 +271,7 @@ rule = of_emps (person_atom ∷ [])
 abbrev mapping : Mapping
 mapping = record { source = emps; target = persons; conditions = []; rules = rule ∷ [] }
 
-rules_are : (P : Program) → AreRulesOf P.list emps persons (name_line ∷ dept_line ∷ []) [] (rule ∷ [])
+rules_are : (P : Program) → RulesOfLines P.list emps persons (name_line ∷ dept_line ∷ []) [] (rule ∷ [])
 rules_are P = record { closed = []; closings = tt; are = refl }
 
 taken : (P : Program) → (taking P.list P.tests).passes clashing_world (between_of said) (rule ∷ [])

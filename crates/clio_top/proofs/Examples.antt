@@ -47,7 +47,7 @@ use Rattle.dx_exchange.specs.declared.result.Exchange.{Exchange}
 use Rattle.dx_stages.specs.Worlds.{World}
 use Rattle.clio_accept.specs.declared.mapping.Mapping.{Mapping}
 use Rattle.clio_accept.specs.Accepting.{accepting, between_of, taking}
-use Rattle.clio_accept.specs.Mapping.{AreRulesOf, NoneReserved}
+use Rattle.clio_accept.specs.Mapping.{RulesOfLines, NoneReserved}
 use Rattle.clio_source.specs.Source.{ReadState, SaysSourceFacts, at_start, data_bytes, flat, reading, source_cells, source_stages}
 use Rattle.clio_ending.specs.declared.ending.Done.TheVariants.{Exchanged}
 use Rattle.clio_steps.specs.declared.texts.Side.TheVariants.{First}
@@ -312,7 +312,7 @@ rule = record { premise = premise_atom ∷ []; derived = []; conclusion = conclu
 abbrev pub mapping : Mapping
 mapping = record { source = emps; target = persons; conditions = []; rules = rule ∷ [] }
 
-rules_are : (P : Program) → AreRulesOf P.list emps persons (line ∷ []) [] (rule ∷ [])
+rules_are : (P : Program) → RulesOfLines P.list emps persons (line ∷ []) [] (rule ∷ [])
 rules_are P = record { closed = []; closings = tt; are = refl }
 
 taken : (P : Program) → (taking P.list P.tests).passes world (between_of said) (rule ∷ [])

@@ -42,7 +42,7 @@ use Rattle.dx_implies.specs.Frozen.{PassesFrozen, frozen_premise, marks}
 use Rattle.dx_implies.specs.Pruning.{IsPrunedAlways, PassesBeside, PruningPassesLimit}
 use Rattle.clio_accept.specs.declared.mapping.Mapping.{Mapping}
 use Rattle.clio_accept.specs.Accepting.{accepting, between_of, taking}
-use Rattle.clio_accept.specs.Mapping.{AreRulesOf, NoneReserved, frozen_cells}
+use Rattle.clio_accept.specs.Mapping.{RulesOfLines, NoneReserved, frozen_cells}
 use Rattle.clio_steps.specs.Steps.{Program}
 use Rattle.clio_top.specs.KeyedWorlds.{keyed_text, keyed_world}
 use Rattle.clio_top.proofs.Examples.{mark, word}
@@ -370,7 +370,7 @@ dept_rule = of_emps (dept_atom ∷ [])
 abbrev both : List Rule
 both = dept_rule ∷ rule ∷ []
 
-rules_are : (P : Program) → AreRulesOf P.list emps depts (dept_line ∷ name_line ∷ []) [] both
+rules_are : (P : Program) → RulesOfLines P.list emps depts (dept_line ∷ name_line ∷ []) [] both
 rules_are P = record { closed = []; closings = tt; are = refl }
 
 -- ---- the first rule goes, and the second stays

@@ -203,10 +203,10 @@ module _ (world : World) (s : TwoEmps world) where
   tuples = (s.first ∷ s.first_dept ∷ []) ∷ (s.second ∷ s.second_dept ∷ []) ∷ []
 
   -- the texts are those of the first or of the second
-  abbrev pub AreTexts : (ℕ → Text) → Type 0
-  AreTexts texts = ((s.first ≡ texts 0) × (s.first_dept ≡ texts 1)) ⊎ ((s.second ≡ texts 0) × (s.second_dept ≡ texts 1))
+  abbrev pub AllTexts : (ℕ → Text) → Type 0
+  AllTexts texts = ((s.first ≡ texts 0) × (s.first_dept ≡ texts 1)) ⊎ ((s.second ≡ texts 0) × (s.second_dept ≡ texts 1))
 
-  named : (texts : ℕ → Text) → premise_fact texts premise_atom ∈ facts (rows world s) → AreTexts texts
+  named : (texts : ℕ → Text) → premise_fact texts premise_atom ∈ facts (rows world s) → AllTexts texts
   named texts (here e) =
       let d : emp_row s.first s.first_dept ≡ emp_row (texts 0) (texts 1) = ap (λ (f : Fact). f.row) e in inl ((cc), (cc))
   named texts (there (here e)) =
@@ -214,7 +214,7 @@ module _ (world : World) (s : TwoEmps world) where
   named texts (there (there m)) = elim m [ ]
 
   pub texts_are : (convert : Conversions) (conclusion : List Atom) (texts : ℕ → Text)
-      → IsMatch convert (of_emps conclusion) (facts (rows world s)) texts → AreTexts texts
+      → IsMatch convert (of_emps conclusion) (facts (rows world s)) texts → AllTexts texts
   texts_are convert conclusion texts m = named texts (m.premise premise_atom (here refl))
 
   -- the texts of one employee
@@ -260,7 +260,7 @@ module _ (world : World) (s : TwoEmps world) where
           (of_one s.second s.second_dept, matched convert conclusion s.second s.second_dept (there (here refl)), sym e ∙ sym (exports (of_one s.second s.second_dept)))
       from t (there (there m)) = elim m [ ]
 
-      put : (texts : ℕ → Text) → AreTexts texts → texts 0 ∷ texts 1 ∷ [] ∈ tuples
+      put : (texts : ℕ → Text) → AllTexts texts → texts 0 ∷ texts 1 ∷ [] ∈ tuples
       put texts (inl (n, d)) = here (cc)
       put texts (inr (n, d)) = there (here (cc))
 

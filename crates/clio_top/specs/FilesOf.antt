@@ -33,8 +33,8 @@ abbrev pub NullsHaveTexts : Mapping → Exchange → Type 0
 NullsHaveTexts M e = (n : NullId) → Null n ∈ values (facts e.target) → HasTexts M.rules e.matches n
 
 -- exactly the files of the exchange, by names and bytes
-abbrev pub AreFilesOf : List Conversion → Mode → Bool → Mapping → Exchange → List Entry → Type 0
-AreFilesOf list mode nested M e entries =
+abbrev pub EntriesOfExchange : List Conversion → Mode → Bool → Mapping → Exchange → List Entry → Type 0
+EntriesOfExchange list mode nested M e entries =
     (files : List PrintedFile) × AreFiles M.source M.target list mode nested M.rules e files
     × (entries ≡ files_of files)
 

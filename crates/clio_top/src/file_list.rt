@@ -2,7 +2,7 @@
 ghost use Rattle.std.specs.Prelude.{IfOk};
 ghost use Rattle.dx_base.specs.Entries.{entries_of};
 ghost use Rattle.dx_funcs.specs.Serving.{offered};
-ghost use Rattle.clio_top.specs.FilesOf.{AreFilesOf, CanBeWritten};
+ghost use Rattle.clio_top.specs.FilesOf.{EntriesOfExchange, CanBeWritten};
 
 use clio_accept::Mapping;
 use clio_files::{Output, into_files, print_files};
@@ -29,7 +29,7 @@ where
     F: Fn(u32, &Items<Text>) -> Result<Text, AllocError>,
     M: Meaning,
     requires { CanBeWritten (offered host.now) mapping.now exchange.now }
-    ensures { IfOk result (λ fs. AreFilesOf (offered host.now) mode nested mapping.now exchange.now (entries_of fs.items)) }
+    ensures { IfOk result (λ fs. EntriesOfExchange (offered host.now) mode nested mapping.now exchange.now (entries_of fs.items)) }
 {
     let output = Output { mode, nested };
     let printed = print_files(alloc, mapping, exchange, host, output)?;

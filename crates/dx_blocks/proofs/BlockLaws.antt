@@ -20,7 +20,7 @@ use Rattle.dx_model.proofs.Reduction.{block_closed}
 use Rattle.dx_blocks.specs.declared.block.Block.{Block}
 use Rattle.dx_blocks.specs.Blocks.{AreBlocks, IsBlockOf, least}
 use Rattle.dx_blocks.specs.Nulls.{AreNulls}
-use Rattle.dx_blocks.specs.Labels.{AreFilled, AreLabels, has_nulls}
+use Rattle.dx_blocks.specs.Labels.{BlocksFilled, AreLabels, has_nulls}
 use Rattle.dx_blocks.specs.Laws.{OneBlockList, BlocksAreClosed, EachInBlock, BlocksAreApart}
 use Rattle.dx_blocks.proofs.Connections.{connected_by, connected_trans, connected_sym, connected_more}
 use Rattle.dx_blocks.proofs.BlockParts.{filled_are}
@@ -50,7 +50,7 @@ blocks_by_members A B bs s a = record {
 
 -- what `blocks` answers, as the list of blocks is written back
 pub blocks_are : (r : Result (Vec Block Global) AllocError) (A F : List Fact) (ns : List NullId) (labels : List ℕ)
-    (bs rest : List Block) (n : ℕ) → F ≈ A → AreNulls F ns → AreLabels F ns labels → AreFilled ns labels ns F bs → length bs ≡ n
+    (bs rest : List Block) (n : ℕ) → F ≈ A → AreNulls F ns → AreLabels F ns labels → BlocksFilled ns labels ns F bs → length bs ≡ n
     → IfOk r (λ v. v.items ≡ filter has_nulls (take n (bs ++ rest))) → IfOk r (λ v. AreBlocks A v.items)
 blocks_are (Ok v) A F ns labels bs rest n s a g f l e =
     rw (e ∙ ap (filter has_nulls) (take_at bs rest n l)) (blocks_by_members F A (filter has_nulls bs) s (filled_are F ns ns labels bs a.ascend (λ m. (a.exactly m).1) a.exactly g f))

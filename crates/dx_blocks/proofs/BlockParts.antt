@@ -20,7 +20,7 @@ use Rattle.dx_base.proofs.Tests.{from_filter}
 use Rattle.dx_blocks.specs.declared.block.Block.{Block}
 use Rattle.dx_blocks.specs.Blocks.{AreBlocks, IsBlockOf, least}
 use Rattle.dx_model.specs.Blocks.{Connected}
-use Rattle.dx_blocks.specs.Labels.{AreFilled, AreLabels, block_at, has_nulls}
+use Rattle.dx_blocks.specs.Labels.{BlocksFilled, AreLabels, block_at, has_nulls}
 use Rattle.dx_blocks.proofs.NullLists.{ascends_at, place_there, not_less}
 use Rattle.dx_blocks.proofs.Connections.{connected_there}
 use Rattle.dx_blocks.proofs.Labelling.{Knows}
@@ -52,7 +52,7 @@ not_apart m n a b = by_order (null_cmp m n) refl
 -- ---- filled blocks
 
 module _ (A : List Fact) (ns some : List NullId) (labels : List ℕ) (bs : List Block) (up : NullsAscend ns) (known : Knows A ns)
-    (a : (n : NullId) → (n ∈ some) ↔ (Null n ∈ values A)) (g : AreLabels A ns labels) (f : AreFilled ns labels some A bs) where
+    (a : (n : NullId) → (n ∈ some) ↔ (Null n ∈ values A)) (g : AreLabels A ns labels) (f : BlocksFilled ns labels some A bs) where
   abbrev at : List ℕ → ℕ → ℕ
   at xs k = get_or xs k 0
 
@@ -154,7 +154,7 @@ leasts_ascend (c ∷ bs) up = elim (cases_Bool (has_nulls c)) [
 ]
 
 module _ (A : List Fact) (ns some : List NullId) (labels : List ℕ) (bs : List Block) (up : NullsAscend ns) (known : Knows A ns)
-    (a : (n : NullId) → (n ∈ some) ↔ (Null n ∈ values A)) (g : AreLabels A ns labels) (f : AreFilled ns labels some A bs) where
+    (a : (n : NullId) → (n ∈ some) ↔ (Null n ∈ values A)) (g : AreLabels A ns labels) (f : BlocksFilled ns labels some A bs) where
   least_here : (k : ℕ) → k < length bs → has_nulls (block_at bs k) ≡ true → least (block_at bs k) ≡ null_at ns k
   least_here k h t = least_is A ns some labels bs up known a g f k (rw (← f.many) h) (least (block_at bs k)) (any (block_at bs k).nulls t)
 

@@ -12,7 +12,7 @@ use Rattle.dx_model.specs.Values.{FactsAscend, NullsAscend, null_cmp, fact_cmp, 
 use Rattle.std.specs.declared.cmp.Ordering.TheVariants.{Less}
 use Rattle.dx_blocks.specs.declared.block.Block.{Block}
 use Rattle.dx_blocks.specs.Nulls.{AreNulls, StandsIn}
-use Rattle.dx_blocks.specs.Labels.{AreFilled, AreLabels, HasLabel, HoldsLabel, block_at}
+use Rattle.dx_blocks.specs.Labels.{BlocksFilled, AreLabels, HasLabel, HoldsLabel, block_at}
 use Rattle.dx_blocks.proofs.Connections.{connected_by}
 use Rattle.dx_blocks.proofs.NullLists.{place_is_one}
 use Rattle.dx_blocks.proofs.Placing.{placed_none, placed_as, placed_passed, placed_more, ascends_take, ascends_split}
@@ -38,7 +38,7 @@ no_block = record { nulls = []; facts = [] }
 -- ---- blocks without nulls and facts
 
 pub start_filled : (ns : List NullId) (labels : List ℕ) (bs : List Block) → bs ≡ replicate (length ns) (record { nulls = []; facts = [] })
-    → AreFilled ns labels [] [] bs
+    → BlocksFilled ns labels [] [] bs
 start_filled ns labels bs e = record {
   many = rw e (length-replicate (length ns) (record { nulls = []; facts = [] }));
   nulls = placed_none NullLess (HasLabel ns labels) (nulls_at bs) (length ns) (λ k h. ap (λ (b : Block). b.nulls) (empty k h));
@@ -72,9 +72,9 @@ module _ (bs : List Block) (l : ℕ) (b : Block) (h : l < length bs) where
 -- ---- one null more
 
 pub null_put : (A held : List Fact) (ns some : List NullId) (labels : List ℕ) (bs : List Block) (i : ℕ) (b : Block)
-    → NullsAscend ns → AreLabels A ns labels → i < length ns → AreFilled ns labels some held bs → Each some (λ y. NullLess y (null_at ns i))
+    → NullsAscend ns → AreLabels A ns labels → i < length ns → BlocksFilled ns labels some held bs → Each some (λ y. NullLess y (null_at ns i))
     → b.nulls ≡ nulls_at bs (at labels i) ++ null_at ns i ∷ [] → b.facts ≡ facts_at bs (at labels i)
-    → AreFilled ns labels (some ++ null_at ns i ∷ []) held (set bs (at labels i) b)
+    → BlocksFilled ns labels (some ++ null_at ns i ∷ []) held (set bs (at labels i) b)
 null_put A held ns some labels bs i b up g h f after en ef = record {
   many = length-set bs l b ∙ f.many;
   nulls =
@@ -96,17 +96,17 @@ null_put A held ns some labels bs i b up g h f after en ef = record {
     only k w = sym w.labelled ∙ ap (at labels) (place_is_one ns up w.place i w.within h w.is)
 
 pub null_filled : (A : List Fact) (ns : List NullId) (labels : List ℕ) (bs : List Block) (i : ℕ) (b : Block)
-    → AreNulls A ns → AreLabels A ns labels → i < length ns → AreFilled ns labels (take i ns) [] bs
+    → AreNulls A ns → AreLabels A ns labels → i < length ns → BlocksFilled ns labels (take i ns) [] bs
     → b.nulls ≡ nulls_at bs (at labels i) ++ null_at ns i ∷ [] → b.facts ≡ facts_at bs (at labels i)
-    → AreFilled ns labels (take (i + 1) ns) [] (set bs (at labels i) b)
+    → BlocksFilled ns labels (take (i + 1) ns) [] (set bs (at labels i) b)
 null_filled A ns labels bs i b a g h f en ef = rw (take_more ns i none h)
     (null_put A [] ns (take i ns) labels bs i b a.ascend g h f (ascends_take NullLess ns i none h a.ascend) en ef)
   where
     none : NullId
     none = record { rule = 0; var = 0; row = 0 }
 
-pub nulls_filled : (ns : List NullId) (labels : List ℕ) (bs : List Block) (i : ℕ) → length ns ≤ i → AreFilled ns labels (take i ns) [] bs
-    → AreFilled ns labels ns [] bs
+pub nulls_filled : (ns : List NullId) (labels : List ℕ) (bs : List Block) (i : ℕ) → length ns ≤ i → BlocksFilled ns labels (take i ns) [] bs
+    → BlocksFilled ns labels ns [] bs
 nulls_filled ns labels bs i h f = rw (take_all i ns h) at f
 
 -- ---- one fact more
@@ -119,10 +119,10 @@ one_label A ns labels f p k g m s w =
     sym v.labelled ∙ (g.exactly v.place p v.within s.within).1 (connected_by f m (rw v.is w.1) s.there)
 
 module _ (A : List Fact) (ns some : List NullId) (labels : List ℕ) (bs : List Block) (done rest : List Fact) (f : Fact)
-    (e : done ++ f ∷ rest ≡ A) (x : AreFilled ns labels some done bs) where
+    (e : done ++ f ∷ rest ≡ A) (x : BlocksFilled ns labels some done bs) where
   pub fact_filled : (p : ℕ) (b : Block) → AreLabels A ns labels → FactsAscend A → StandsIn ns f.row p
       → b.facts ≡ facts_at bs (at labels p) ++ f ∷ [] → b.nulls ≡ nulls_at bs (at labels p)
-      → AreFilled ns labels some (done ++ f ∷ []) (set bs (at labels p) b)
+      → BlocksFilled ns labels some (done ++ f ∷ []) (set bs (at labels p) b)
   fact_filled p b g up s ef en = record {
     many = length-set bs l b ∙ x.many;
     nulls = placed_as NullLess (HasLabel ns labels) (nulls_at bs) (nulls_at (set bs l b)) (length ns) some
@@ -141,7 +141,7 @@ module _ (A : List Fact) (ns some : List NullId) (labels : List ℕ) (bs : List 
       inside : l < length bs
       inside = let q = x.many in let w = g.least p s.within in let i = s.within in omega arith
 
-  pub fact_passed : ((n : NullId) → ¬ (Null n ∈ f.row)) → AreFilled ns labels some (done ++ f ∷ []) bs
+  pub fact_passed : ((n : NullId) → ¬ (Null n ∈ f.row)) → BlocksFilled ns labels some (done ++ f ∷ []) bs
   fact_passed none = record {
     many = x.many;
     nulls = x.nulls;
@@ -152,7 +152,7 @@ module _ (A : List Fact) (ns some : List NullId) (labels : List ℕ) (bs : List 
 
 -- the facts in front of the rest are put into blocks
 abbrev pub FilledTo : List NullId → List ℕ → List Fact → List Fact → List Block → Type 0
-FilledTo ns labels start rest bs = (done : List Fact) × (done ++ rest ≡ start) × AreFilled ns labels ns done bs
+FilledTo ns labels start rest bs = (done : List Fact) × (done ++ rest ≡ start) × BlocksFilled ns labels ns done bs
 
 module _ (A : List Fact) (ns : List NullId) (labels : List ℕ) (bs : List Block) (start rest next : List Fact) (f : Fact)
     (i : FilledTo ns labels start rest bs) (s : rest ≡ f ∷ next) (g : start ≡ A) where

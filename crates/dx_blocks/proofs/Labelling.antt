@@ -15,8 +15,8 @@ use Rattle.dx_model.specs.Values.{NullsAscend, null_at}
 use Rattle.dx_model.specs.Instances.{values}
 use Rattle.dx_model.specs.Blocks.{Connected, itself, onward}
 use Rattle.dx_blocks.specs.Nulls.{AreNulls, StandsIn}
-use Rattle.dx_blocks.specs.Forest.{Falls, Respects, ParentsAreConnected, AreSameTrees, IsTreeUnion, IsFlat}
-use Rattle.dx_blocks.specs.Labels.{AreLabels, AreOne, JoinsRow, JoinsAll}
+use Rattle.dx_blocks.specs.Forest.{Falls, Respects, ParentsAreConnected, SameTrees, IsTreeUnion, IsFlat}
+use Rattle.dx_blocks.specs.Labels.{AreLabels, ConnectsRow, JoinsRow, JoinsAll}
 use Rattle.dx_blocks.proofs.Connections.{connected_by, connected_trans, connected_sym, connected_same}
 use Rattle.dx_blocks.proofs.NullLists.{place_is_one, place_there}
 use Rattle.dx_blocks.proofs.Trees.{at_singles}
@@ -107,7 +107,7 @@ row_joined ns row first i P Q h s = record {
 pub record AllSoFar (A some : List Fact) (ns : List NullId) (old new : List ℕ) : Type 0 where
   pub many : length new ≡ length old
   pub falls : Falls new
-  pub one : (f : Fact) → f ∈ some → AreOne ns new f.row
+  pub one : (f : Fact) → f ∈ some → ConnectsRow ns new f.row
   pub tied : ParentsAreConnected A ns old → ParentsAreConnected A ns new
 
 pub all_start : (A : List Fact) (ns : List NullId) (P : List ℕ) → Falls P → AllSoFar A [] ns P P
@@ -119,7 +119,7 @@ module _ (A : List Fact) (ns : List NullId) (P Q : List ℕ) (i : ℕ) (f : Fact
   fact_joined R j = record {
     many = j.many ∙ s.many;
     falls = j.falls;
-    one = each_more (λ (g : Fact). AreOne ns R g.row) A i f h e (λ g m c r p q u w. s.one g m c (j.respects c r) p q u w) j.one;
+    one = each_more (λ (g : Fact). ConnectsRow ns R g.row) A i f h e (λ g m c r p q u w. s.one g m c (j.respects c r) p q u w) j.one;
     tied = λ t. j.tied A f (each_item (λ (g : Fact). g ∈ A) A i f h e (λ g k. k)) refl (s.tied t);
   }
 
@@ -127,7 +127,7 @@ module _ (A : List Fact) (ns : List NullId) (P Q : List ℕ) (i : ℕ) (f : Fact
   fact_passed none = record {
     many = s.many;
     falls = s.falls;
-    one = each_more (λ (g : Fact). AreOne ns Q g.row) A i f h e s.one (λ c r p q u w. absurd (none (null_at ns p) u.there));
+    one = each_more (λ (g : Fact). ConnectsRow ns Q g.row) A i f h e s.one (λ c r p q u w. absurd (none (null_at ns p) u.there));
     tied = s.tied;
   }
 
@@ -161,7 +161,7 @@ single_trees_tied A ns P n e k h =
 
 -- flat trees in which the nulls of each fact are one
 module _ (A : List Fact) (ns : List NullId) (up : NullsAscend ns) (knows : Knows A ns) (R : List ℕ) (many : length R ≡ length ns)
-    (flat : IsFlat R) (tied : ParentsAreConnected A ns R) (one : (f : Fact) → f ∈ A → AreOne ns R f.row) where
+    (flat : IsFlat R) (tied : ParentsAreConnected A ns R) (one : (f : Fact) → f ∈ A → ConnectsRow ns R f.row) where
   -- the trees give their own labels
   own_labels : Respects R (at R)
   own_labels k h = sym (flat k h)
@@ -180,7 +180,7 @@ module _ (A : List Fact) (ns : List NullId) (up : NullsAscend ns) (knows : Knows
       ∙ one f i (at R) own_labels w.0 q (record { within = w.1; there = rw w.2 x }) (record { within = k; there = rw e y })
 
 pub labels_are : (A : List Fact) (ns : List NullId) (P Q R : List ℕ) → NullsAscend ns → Knows A ns → P ≡ range_with_len 0 (length ns) → JoinsAll A ns P Q
-    → AreSameTrees Q R → IsFlat R → AreLabels A ns R
+    → SameTrees Q R → IsFlat R → AreLabels A ns R
 labels_are A ns P Q R up knows e j s flat = record {
   many = many;
   least = λ k h. s.falls k (rw many h);
@@ -197,12 +197,12 @@ labels_are A ns P Q R up knows e j s flat = record {
     tied : ParentsAreConnected A ns R
     tied = (s.tied A ns).0 (j.tied (single_trees_tied A ns P (length ns) e))
 
-    one : (f : Fact) → f ∈ A → AreOne ns R f.row
+    one : (f : Fact) → f ∈ A → ConnectsRow ns R f.row
     one f m c r p q u w = j.one f m c ((s.respects c).1 r) p q u w
 
 -- the same, as the lists are written back
 pub labels_written : (A : List Fact) (ns : List NullId) (P J Q R rest more : List ℕ) (n : ℕ) → NullsAscend ns → Knows A ns → length ns ≡ n
-    → P ≡ range_with_len 0 (length ns) → JoinsAll A ns P J → Q ≡ take n (J ++ rest) → AreSameTrees Q R → IsFlat R
+    → P ≡ range_with_len 0 (length ns) → JoinsAll A ns P J → Q ≡ take n (J ++ rest) → SameTrees Q R → IsFlat R
     → AreLabels A ns (take n (R ++ more))
 labels_written A ns P J Q R rest more n up knows l e j q s flat =
     let joined : length J ≡ n = j.many ∙ (single_trees_many P (length ns) e ∙ l) in

@@ -15,11 +15,11 @@ use Rattle.dx_model.specs.declared.values.Value.{Value}
 use Rattle.dx_model.specs.declared.values.Value.TheVariants.{Const, Null}
 use Rattle.dx_model.specs.Values.{NullsAscend, null_cmp, value_cmp, null_at}
 use Rattle.dx_instance.specs.Numbers.{ValuesAscend, value_of}
-use Rattle.dx_instance.specs.Shown.{NumberedInstance, PartsFit, AreBelow, numbers_of_table, shown_row, shown_tables}
+use Rattle.dx_instance.specs.Shown.{NumberedInstance, PartsFit, NumbersBelow, numbers_of_table, shown_row, shown_tables}
 use Rattle.dx_instance.proofs.ShownFacts.{row_shown, numbers_below, fits_in}
 use Rattle.dx_blocks.specs.declared.numbered.At.{At}
 use Rattle.dx_blocks.specs.Numbered.{IsRowIn, as_null, fact_of, null_under}
-use Rattle.dx_blocks.specs.NullRows.{AreNullRows, IsRowBefore, IsFirstNull, nulls_from, row_numbers}
+use Rattle.dx_blocks.specs.NullRows.{HasNullRows, IsRowBefore, IsFirstNull, nulls_from, row_numbers}
 use Rattle.dx_blocks.proofs.Placing.{ascends_more}
 use Rattle.dx_blocks.proofs.Trees.{at_range}
 
@@ -69,12 +69,12 @@ pub row_is : (N : NumberedInstance) (a : At) → IsRowIn N a → (fact_of N a).r
 row_is N a r = row_shown N.symbols N.tables (shown_tables N.symbols N.tables) a.table a.place (numbers_of_table N.tables a.table) refl r.table
     (same_table N a.table r.table) r.place
 
-pub row_below : (N : NumberedInstance) (a : At) → PartsFit N.symbols N.tables → IsRowIn N a → AreBelow (length N.symbols) (row_numbers N a)
+pub row_below : (N : NumberedInstance) (a : At) → PartsFit N.symbols N.tables → IsRowIn N a → NumbersBelow (length N.symbols) (row_numbers N a)
 row_below N a f r =
     numbers_below (length N.symbols) (numbers_of_table N.tables a.table) a.place
     (fits_in N.symbols N.tables a.table (numbers_of_table N.tables a.table) f r.table (same_table N a.table r.table)) r.place
 
-pub no_rows : (N : NumberedInstance) (first : ℕ) → AreNullRows N first 0 0 []
+pub no_rows : (N : NumberedInstance) (first : ℕ) → HasNullRows N first 0 0 []
 no_rows N first = record {
   each = λ a m. elim m [ ];
   all = λ a n r b m l. elim b [ inl k ↦ absurd (omega arith) | inr k ↦ absurd (omega (arith, k.1)) ];
@@ -97,7 +97,7 @@ at_is t p a d e = λ i. record { table = d i; place = e i }
 
 -- a row without nulls
 pub row_passed : (N : NumberedInstance) (first t p : ℕ) (rows : List At) → Each (row_numbers N (record { table = t; place = p })) (λ n. n < first)
-    → AreNullRows N first t p rows → AreNullRows N first t (p + 1) rows
+    → HasNullRows N first t p rows → HasNullRows N first t (p + 1) rows
 row_passed N first t p rows none s = record {
   each = λ a m. let w = s.each a m in (w.0, later t p a w.1);
   all = λ a n r b m l. elim (before_here t p a b) [
@@ -112,7 +112,7 @@ row_passed N first t p rows none s = record {
 
 -- one row more
 pub row_kept : (N : NumberedInstance) (first t p : ℕ) (rows : List At) → IsRowIn N (record { table = t; place = p })
-    → AreNullRows N first t p rows → AreNullRows N first t (p + 1) (rows ++ record { table = t; place = p } ∷ [])
+    → HasNullRows N first t p rows → HasNullRows N first t (p + 1) (rows ++ record { table = t; place = p } ∷ [])
 row_kept N first t p rows r s = record {
   each = λ a m. elim (from_append rows m) [
     | inl k ↦ let w = s.each a k in (w.0, later t p a w.1)
@@ -131,7 +131,7 @@ row_kept N first t p rows r s = record {
 
 -- the next table
 pub next_table : (N : NumberedInstance) (first t p : ℕ) (rows : List At) → length (numbers_of_table N.tables t).rows ≤ p
-    → AreNullRows N first t p rows → AreNullRows N first (t + 1) 0 rows
+    → HasNullRows N first t p rows → HasNullRows N first (t + 1) 0 rows
 next_table N first t p rows h s = record {
   each = λ a m. let w = s.each a m in (w.0, up a w.1);
   all = λ a n r b m l. s.all a n r (down a r b) m l;

@@ -31,9 +31,9 @@ use Rattle.dx_blocks.specs.declared.block.Block.{Block}
 use Rattle.dx_blocks.specs.declared.numbered.At.{At}
 use Rattle.dx_blocks.specs.declared.numbered.NumberBlock.{NumberBlock}
 use Rattle.dx_blocks.specs.Blocks.{AreBlocks, IsBlockOf, least}
-use Rattle.dx_blocks.specs.Labels.{AreFilled, AreLabels, has_nulls}
+use Rattle.dx_blocks.specs.Labels.{BlocksFilled, AreLabels, has_nulls}
 use Rattle.dx_blocks.specs.Numbered.{IsOfNumbers, IsRowIn, fact_of, shown_block}
-use Rattle.dx_blocks.specs.NullRows.{AreNullRows, AreBlocksOfRows, IsRowBefore, IsFirstNull, facts_of, has_numbers, nulls_from, row_numbers, shown_blocks}
+use Rattle.dx_blocks.specs.NullRows.{HasNullRows, BlocksOfRows, IsRowBefore, IsFirstNull, facts_of, has_numbers, nulls_from, row_numbers, shown_blocks}
 use Rattle.dx_blocks.proofs.Connections.{connected_more}
 use Rattle.dx_blocks.proofs.BlockParts.{filled_are}
 use Rattle.dx_blocks.proofs.NullRowFacts.{row_is, row_below, nulls_up, same_table}
@@ -73,11 +73,11 @@ ascend_all N first (a ∷ rows) f s up r w = (
   ascend_all N first rows f s up (λ b m. r b (there m)) w.1,
 )
 
-pub rows_there : (N : NumberedInstance) (first t p : ℕ) (rows : List At) → AreNullRows N first t p rows → Each rows (IsRowIn N)
+pub rows_there : (N : NumberedInstance) (first t p : ℕ) (rows : List At) → HasNullRows N first t p rows → Each rows (IsRowIn N)
 rows_there N first t p rows r a m = (r.each a m).0
 
 pub facts_up : (N : NumberedInstance) (first t p : ℕ) (rows : List At) → PartsFit N.symbols N.tables → IsFirstNull N first → AllAscend N
-    → AreNullRows N first t p rows → FactsAscend (facts_of N rows)
+    → HasNullRows N first t p rows → FactsAscend (facts_of N rows)
 facts_up N first t p rows f s up r = ascend_all N first rows f s up (rows_there N first t p rows r) r.ascend
 
 -- ---- facts with nulls make the blocks
@@ -128,7 +128,7 @@ facts_inside N rows r f m =
 
 -- a fact with a null is that of a row that was found
 pub facts_found : (N : NumberedInstance) (first : ℕ) (rows : List At) → PartsFit N.symbols N.tables → IsFirstNull N first
-    → AreNullRows N first (length N.tables) 0 rows → (f : Fact) (m : NullId) → f ∈ facts (shown_tables N.symbols N.tables) → Null m ∈ f.row
+    → HasNullRows N first (length N.tables) 0 rows → (f : Fact) (m : NullId) → f ∈ facts (shown_tables N.symbols N.tables) → Null m ∈ f.row
     → f ∈ facts_of N rows
 facts_found N first rows p s r f m i j =
     let I : List TableRows = shown_tables N.symbols N.tables in
@@ -165,8 +165,8 @@ shown_kept N (b ∷ bs) = elim (cases_Bool (has_numbers b)) [
 ]
 
 pub blocks_made : (N : NumberedInstance) (first : ℕ) (rows : List At) (labels : List ℕ) (bs : List NumberBlock) → PartsFit N.symbols N.tables
-    → IsFirstNull N first → AreNullRows N first (length N.tables) 0 rows → AreLabels (facts_of N rows) (nulls_from N first) labels
-    → AreBlocksOfRows N first rows labels bs
+    → IsFirstNull N first → HasNullRows N first (length N.tables) 0 rows → AreLabels (facts_of N rows) (nulls_from N first) labels
+    → BlocksOfRows N first rows labels bs
     → AreBlocks (facts (shown_tables N.symbols N.tables)) (shown_blocks N (filter has_numbers bs))
 blocks_made N first rows labels bs f s r g u =
     let there_all = rows_there N first (length N.tables) 0 rows r in
@@ -177,8 +177,8 @@ blocks_made N first rows labels bs f s r g u =
 
 -- the same, as the list of blocks is written back
 pub made_ok : (r : Result (Vec NumberBlock Global) AllocError) (N : NumberedInstance) (first : ℕ) (rows : List At) (labels : List ℕ)
-    (bs rest : List NumberBlock) (n : ℕ) → PartsFit N.symbols N.tables → IsFirstNull N first → AreNullRows N first (length N.tables) 0 rows
-    → AreLabels (facts_of N rows) (nulls_from N first) labels → AreBlocksOfRows N first rows labels bs → length bs ≡ n
+    (bs rest : List NumberBlock) (n : ℕ) → PartsFit N.symbols N.tables → IsFirstNull N first → HasNullRows N first (length N.tables) 0 rows
+    → AreLabels (facts_of N rows) (nulls_from N first) labels → BlocksOfRows N first rows labels bs → length bs ≡ n
     → IfOk r (λ v. v.items ≡ filter has_numbers (take n (bs ++ rest)))
     → IfOk r (λ v. AreBlocks (facts (shown_tables N.symbols N.tables)) (map (shown_block N) v.items))
 made_ok (Ok v) N first rows labels bs rest n f s r g u l e =
@@ -193,7 +193,7 @@ within_ok (Err x) N bs rest n w l e = tt
 
 -- how many blocks there are
 pub filled_many : (N : NumberedInstance) (A : List Fact) (ns some : List NullId) (labels : List ℕ) (bs : List NumberBlock)
-    → AreFilled ns labels some A (shown_blocks N bs) → length bs ≡ length ns
+    → BlocksFilled ns labels some A (shown_blocks N bs) → length bs ≡ length ns
 filled_many N A ns some labels bs f = sym (length-map bs (shown_block N)) ∙ f.many
 
 -- a list that is written back
@@ -202,7 +202,7 @@ written Q J rest n q l = q ∙ take_at J rest n l
 
 -- as many as there are labels
 pub as_many : (N : NumberedInstance) (A B : List Fact) (ns some : List NullId) (labels : List ℕ) (start bs : List NumberBlock) (n : ℕ)
-    → AreLabels B ns labels → AreFilled ns labels some A (shown_blocks N bs) → start ≡ replicate (length labels) (record { nulls = []; rows = [] })
+    → AreLabels B ns labels → BlocksFilled ns labels some A (shown_blocks N bs) → start ≡ replicate (length labels) (record { nulls = []; rows = [] })
     → n ≡ length start → length bs ≡ n
 as_many N A B ns some labels start bs n g f e l =
     filled_many N A ns some labels bs f

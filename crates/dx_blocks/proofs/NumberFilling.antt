@@ -18,9 +18,9 @@ use Rattle.dx_blocks.specs.declared.block.Block.{Block}
 use Rattle.dx_blocks.specs.declared.numbered.At.{At}
 use Rattle.dx_blocks.specs.declared.numbered.NumberBlock.{NumberBlock}
 use Rattle.dx_blocks.specs.Nulls.{StandsIn}
-use Rattle.dx_blocks.specs.Labels.{AreFilled, AreLabels, HoldsLabel, block_at}
+use Rattle.dx_blocks.specs.Labels.{BlocksFilled, AreLabels, HoldsLabel, block_at}
 use Rattle.dx_blocks.specs.Numbered.{IsNullNumber, IsOfNumbers, IsRowIn, fact_of, null_under, shown_block}
-use Rattle.dx_blocks.specs.NullRows.{AreBlocksOfRows, IsFirstNull, facts_of, nulls_from, row_numbers, shown_blocks}
+use Rattle.dx_blocks.specs.NullRows.{BlocksOfRows, IsFirstNull, facts_of, nulls_from, row_numbers, shown_blocks}
 use Rattle.dx_blocks.proofs.Connections.{connected_there}
 use Rattle.dx_blocks.proofs.NullLists.{ascends_at, place_there}
 use Rattle.dx_blocks.proofs.Filling.{fact_filled, fact_passed, null_put, start_filled}
@@ -58,7 +58,7 @@ each_push P xs y e p x m = elim (from_append xs m) [ inl k ↦ e x k | inr k ↦
 -- ---- the start
 
 pub start_shown : (N : NumberedInstance) (ns : List NullId) (labels : List ℕ) (bs : List NumberBlock)
-    → bs ≡ replicate (length ns) (record { nulls = []; rows = [] }) → AreFilled ns labels [] [] (shown_blocks N bs)
+    → bs ≡ replicate (length ns) (record { nulls = []; rows = [] }) → BlocksFilled ns labels [] [] (shown_blocks N bs)
 start_shown N ns labels bs e = start_filled ns labels (shown_blocks N bs) (rw e (empty (length ns)))
   where
     empty : (n : ℕ) → shown_blocks N (replicate n (record { nulls = []; rows = [] })) ≡ replicate n (record { nulls = []; facts = [] })
@@ -76,7 +76,7 @@ start_within N n bs e = rw e (empty n)
 -- ---- one row more
 
 pub record RowsPut (N : NumberedInstance) (first : ℕ) (rows : List At) (labels : List ℕ) (i : ℕ) (bs : List NumberBlock) : Type 0 where
-  pub filled : AreFilled (nulls_from N first) labels [] (take i (facts_of N rows)) (shown_blocks N bs)
+  pub filled : BlocksFilled (nulls_from N first) labels [] (take i (facts_of N rows)) (shown_blocks N bs)
   pub within : Each bs (IsOfNumbers N)
 
 module _ (N : NumberedInstance) (first : ℕ) (rows : List At) (labels : List ℕ) (bs : List NumberBlock) (i : ℕ) (a : At) (f : PartsFit N.symbols N.tables)
@@ -142,7 +142,7 @@ module _ (N : NumberedInstance) (first : ℕ) (rows : List At) (labels : List �
         row_put b up (er ∙ ap (λ (c : NumberBlock). c.rows ++ a ∷ []) (sym same)) (en ∙ ap (λ (c : NumberBlock). c.nulls) (sym same))
 
 pub rows_put : (N : NumberedInstance) (first : ℕ) (rows : List At) (labels : List ℕ) (i : ℕ) (bs : List NumberBlock) → length rows ≤ i
-    → RowsPut N first rows labels i bs → AreFilled (nulls_from N first) labels [] (facts_of N rows) (shown_blocks N bs)
+    → RowsPut N first rows labels i bs → BlocksFilled (nulls_from N first) labels [] (facts_of N rows) (shown_blocks N bs)
 rows_put N first rows labels i bs h x = rw (take_all i (facts_of N rows) (rw (length-map rows (fact_of N)) h)) at x.filled
 
 -- ---- one null more
@@ -152,11 +152,11 @@ pub record NullsPut (N : NumberedInstance) (first : ℕ) (rows : List At) (label
   pub only : (n : NullId) → n ∈ some → Null n ∈ values (facts_of N rows)
   pub all : (k : ℕ) → k < i → Null (null_at (nulls_from N first) k) ∈ values (facts_of N rows) → null_at (nulls_from N first) k ∈ some
   pub before : (n : NullId) → n ∈ some → (k : ℕ) × (k < i) × (null_at (nulls_from N first) k ≡ n)
-  pub filled : AreFilled (nulls_from N first) labels some (facts_of N rows) (shown_blocks N bs)
+  pub filled : BlocksFilled (nulls_from N first) labels some (facts_of N rows) (shown_blocks N bs)
   pub within : Each bs (IsOfNumbers N)
 
 pub nulls_start : (N : NumberedInstance) (first : ℕ) (rows : List At) (labels : List ℕ) (bs : List NumberBlock)
-    → AreFilled (nulls_from N first) labels [] (facts_of N rows) (shown_blocks N bs) → Each bs (IsOfNumbers N) → NullsPut N first rows labels 0 bs
+    → BlocksFilled (nulls_from N first) labels [] (facts_of N rows) (shown_blocks N bs) → Each bs (IsOfNumbers N) → NullsPut N first rows labels 0 bs
 nulls_start N first rows labels bs f w = record {
   some = [];
   only = λ n m. elim m [ ];
@@ -284,7 +284,7 @@ module _ (N : NumberedInstance) (first : ℕ) (rows : List At) (labels : List �
 
 pub nulls_put : (N : NumberedInstance) (first : ℕ) (rows : List At) (labels : List ℕ) (i : ℕ) (bs : List NumberBlock) → PartsFit N.symbols N.tables
     → IsFirstNull N first → Each rows (IsRowIn N) → AreLabels (facts_of N rows) (nulls_from N first) labels → length labels ≤ i
-    → NullsPut N first rows labels i bs → AreBlocksOfRows N first rows labels bs
+    → NullsPut N first rows labels i bs → BlocksOfRows N first rows labels bs
 nulls_put N first rows labels i bs f s r g h x = record {
   some = x.some;
   exactly = λ n. (x.only n, to n);

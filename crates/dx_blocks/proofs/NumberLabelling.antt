@@ -11,7 +11,7 @@ use Rattle.dx_model.specs.declared.values.Value.TheVariants.{Null}
 use Rattle.dx_model.specs.declared.facts.Fact.{Fact}
 use Rattle.dx_instance.specs.Cells.{NumberTable}
 use Rattle.dx_instance.specs.Numbers.{value_of}
-use Rattle.dx_instance.specs.Shown.{NumberedInstance, PartsFit, AreBelow, numbers_of_table, shown_row}
+use Rattle.dx_instance.specs.Shown.{NumberedInstance, PartsFit, NumbersBelow, numbers_of_table, shown_row}
 use Rattle.dx_blocks.specs.declared.numbered.At.{At}
 use Rattle.dx_blocks.specs.Nulls.{StandsIn}
 use Rattle.dx_model.specs.Values.{null_at}
@@ -52,14 +52,14 @@ place_of_number N first n l h =
     let e : first + (n - first) ≡ n = omega arith in
     (rw (nulls_many N first) w, nulls_at N first (n - first) w ∙ ap (null_under N) e)
 
-pub stands : (N : NumberedInstance) (first n : ℕ) (row : List ℕ) → IsFirstNull N first → AreBelow (length N.symbols) row → n ∈ row → first ≤ n
+pub stands : (N : NumberedInstance) (first n : ℕ) (row : List ℕ) → IsFirstNull N first → NumbersBelow (length N.symbols) row → n ∈ row → first ≤ n
     → StandsIn (nulls_from N first) (shown_row N.symbols row) (n - first)
 stands N first n row s b m l =
     let w = place_of_number N first n l (b n m) in
     let e : value_of N.symbols n ≡ Null (null_at (nulls_from N first) (n - first)) = s.nulls n l (b n m) ∙ ap Null (sym w.1) in
     record { within = w.0; there = subst (λ (v : Value). v ∈ shown_row N.symbols row) e (in_map (value_of N.symbols) m) }
 
-module _ (N : NumberedInstance) (first one : ℕ) (row : List ℕ) (s : IsFirstNull N first) (b : AreBelow (length N.symbols) row) (P Q : List ℕ) (i : ℕ)
+module _ (N : NumberedInstance) (first one : ℕ) (row : List ℕ) (s : IsFirstNull N first) (b : NumbersBelow (length N.symbols) row) (P Q : List ℕ) (i : ℕ)
     (h : i < length row)
     (r : RowSoFar (nulls_from N first) (shown_row N.symbols row) (take i (shown_row N.symbols row)) (one - first) P Q) where
   abbrev v : Value

@@ -8,7 +8,7 @@ use Rattle.dx_model.specs.declared.values.NullId.{NullId}
 use Rattle.dx_model.specs.declared.facts.Fact.{Fact}
 use Rattle.dx_model.specs.Blocks.{Connected, itself}
 use Rattle.dx_model.specs.Values.{null_at}
-use Rattle.dx_blocks.specs.Forest.{Falls, AreSameTrees, IsInTree, IsRootOf, IsTreeUnion}
+use Rattle.dx_blocks.specs.Forest.{Falls, SameTrees, IsInTree, IsRootOf, IsTreeUnion}
 use Rattle.dx_blocks.proofs.Connections.{connected_trans, connected_sym}
 
 abbrev at : List ℕ → ℕ → ℕ
@@ -105,7 +105,7 @@ module _ (P : List ℕ) (i : ℕ) (h : i < length P) (f : Falls P) where
     | inr n ↦ kept P i (at P (at P i)) h k n ∙ e
   ]
 
-  pub halved : AreSameTrees P (set P i (at P (at P i)))
+  pub halved : SameTrees P (set P i (at P (at P i)))
   halved = record {
     many = length-set P i (at P (at P i));
     falls = falls_changed P i (at P (at P i)) h f (let a = f i h in let b = grandparent_falls in omega arith);
@@ -120,7 +120,7 @@ module _ (P : List ℕ) (i : ℕ) (h : i < length P) (f : Falls P) where
     );
   }
 
-pub same_trees : (P : List ℕ) → Falls P → AreSameTrees P P
+pub same_trees : (P : List ℕ) → Falls P → SameTrees P P
 same_trees P f = record {
   many = refl;
   falls = f;
@@ -129,7 +129,7 @@ same_trees P f = record {
   tied = λ A ns. ((λ t. t), (λ t. t));
 }
 
-pub same_trees_then : (P Q R : List ℕ) → AreSameTrees P Q → AreSameTrees Q R → AreSameTrees P R
+pub same_trees_then : (P Q R : List ℕ) → SameTrees P Q → SameTrees Q R → SameTrees P R
 same_trees_then P Q R s t = record {
   many = t.many ∙ s.many;
   falls = t.falls;
@@ -143,7 +143,7 @@ same_trees_then P Q R s t = record {
 pub in_own_tree : (P : List ℕ) (k : ℕ) → k < length P → IsInTree P k k
 in_own_tree P k h = record { within = h; respects = λ c r. refl; tied = λ A ns t. itself }
 
-pub still_in_tree : (P Q : List ℕ) (k r : ℕ) → AreSameTrees P Q → IsInTree P k r → IsInTree Q k r
+pub still_in_tree : (P Q : List ℕ) (k r : ℕ) → SameTrees P Q → IsInTree P k r → IsInTree Q k r
 still_in_tree P Q k r s a = record {
   within = rw (s.many) a.within;
   respects = λ c m. a.respects c ((s.respects c).1 m);
@@ -159,7 +159,7 @@ parent_in_tree P k r f a = record {
 
 -- what a walk has gone up to
 abbrev pub Climbs : List ℕ → List ℕ → ℕ → ℕ → Type 0
-Climbs P Q k r = AreSameTrees P Q × IsInTree Q k r
+Climbs P Q k r = SameTrees P Q × IsInTree Q k r
 
 pub climbs_on : (P Q : List ℕ) (k r : ℕ) → Climbs P Q k r
     → Climbs P (set Q r (at Q (at Q r))) k (at (set Q r (at Q (at Q r))) r)
@@ -193,7 +193,7 @@ module _ (P : List ℕ) (hi lo a b : ℕ) (f : Falls P) (h : hi < length P) (roo
       before : (c : ℕ → ℕ) → Links (Label c) (set P hi lo) → Links (Label c) P
       before c r = links_before (Label c) (λ k. refl) (λ j k e. sym e) (λ i j k d e. d ∙ e) P hi h lo (ap c (sym root)) r
 
-join_then : (P Q R : List ℕ) (a b : ℕ) → AreSameTrees P Q → IsTreeUnion Q R a b → IsTreeUnion P R a b
+join_then : (P Q R : List ℕ) (a b : ℕ) → SameTrees P Q → IsTreeUnion Q R a b → IsTreeUnion P R a b
 join_then P Q R a b s j = record {
   many = j.many ∙ s.many;
   falls = j.falls;
@@ -203,7 +203,7 @@ join_then P Q R a b s j = record {
 }
 
 -- x and y are the roots of a and b
-module _ (P Q S : List ℕ) (a b x y : ℕ) (s : AreSameTrees P Q) (u : IsRootOf Q a x) (t : AreSameTrees Q S) (v : IsRootOf S b y) where
+module _ (P Q S : List ℕ) (a b x y : ℕ) (s : SameTrees P Q) (u : IsRootOf Q a x) (t : SameTrees Q S) (v : IsRootOf S b y) where
   up : IsInTree S a x
   up = still_in_tree Q S a x t u.0
 
@@ -225,8 +225,8 @@ module _ (P Q S : List ℕ) (a b x y : ℕ) (s : AreSameTrees P Q) (u : IsRootOf
 abbrev pub FlatTo : ℕ → List ℕ → Type 0
 FlatTo i P = (k : ℕ) → k < i → at P (at P k) ≡ at P k
 
-pub flat_more : (P Q : List ℕ) (i : ℕ) → AreSameTrees P Q → i < length Q → FlatTo i Q
-    → AreSameTrees P (set Q i (at Q (at Q i))) × FlatTo (i + 1) (set Q i (at Q (at Q i)))
+pub flat_more : (P Q : List ℕ) (i : ℕ) → SameTrees P Q → i < length Q → FlatTo i Q
+    → SameTrees P (set Q i (at Q (at Q i))) × FlatTo (i + 1) (set Q i (at Q (at Q i)))
 flat_more P Q i s h flat = (same_trees_then P Q (set Q i (at Q (at Q i))) s (halved Q i h s.falls), flat_to)
   where
     v : ℕ

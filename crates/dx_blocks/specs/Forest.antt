@@ -24,7 +24,7 @@ ParentsAreConnected A ns parents =
     (k : ℕ) → k < length parents → Connected A (null_at ns k) (null_at ns (slice_index parents k))
 
 -- the trees have the same numbers and roots as before
-pub record AreSameTrees (old new : List ℕ) : Type 0 where
+pub record SameTrees (old new : List ℕ) : Type 0 where
   pub many : length new ≡ length old
   pub falls : Falls new
   pub roots : (k : ℕ) → k < length old → slice_index old k ≡ k → slice_index new k ≡ k

@@ -12,15 +12,15 @@ use Rattle.dx_blocks.specs.Nulls.{AreNulls, StandsIn}
 use Rattle.dx_blocks.specs.Forest.{Respects, Falls, ParentsAreConnected}
 
 -- the nulls of the row stand in one tree
-abbrev pub AreOne : List NullId → List ℕ → List Value → Type 0
-AreOne ns parents row = (c : ℕ → ℕ) → Respects parents c → (p q : ℕ) → StandsIn ns row p → StandsIn ns row q → c p ≡ c q
+abbrev pub ConnectsRow : List NullId → List ℕ → List Value → Type 0
+ConnectsRow ns parents row = (c : ℕ → ℕ) → Respects parents c → (p q : ℕ) → StandsIn ns row p → StandsIn ns row q → c p ≡ c q
 
 -- the trees of the nulls of the row are one now, and no others
 pub record JoinsRow (ns : List NullId) (row : List Value) (old new : List ℕ) : Type 0 where
   pub many : length new ≡ length old
   pub falls : Falls new
   pub respects : (c : ℕ → ℕ) → Respects new c → Respects old c
-  pub one : AreOne ns new row
+  pub one : ConnectsRow ns new row
   pub tied : (A : List Fact) (f : Fact) → f ∈ A → f.row ≡ row → ParentsAreConnected A ns old
       → ParentsAreConnected A ns new
 
@@ -28,7 +28,7 @@ pub record JoinsRow (ns : List NullId) (row : List Value) (old new : List ℕ) :
 pub record JoinsAll (A : List Fact) (ns : List NullId) (old new : List ℕ) : Type 0 where
   pub many : length new ≡ length old
   pub falls : Falls new
-  pub one : (f : Fact) → f ∈ A → AreOne ns new f.row
+  pub one : (f : Fact) → f ∈ A → ConnectsRow ns new f.row
   pub tied : ParentsAreConnected A ns old → ParentsAreConnected A ns new
 
 -- the label of a null is the least place of those that are connected with it
@@ -40,7 +40,7 @@ pub record AreLabels (A : List Fact) (ns : List NullId) (labels : List ℕ) : Ty
       → (slice_index labels p ≡ slice_index labels q) ↔ Connected A (null_at ns p) (null_at ns q)
 
 -- ns has the nulls of A, and ls their labels
-pub record AreLabelledNulls (A : List Fact) (ns : List NullId) (ls : List ℕ) : Type 0 where
+pub record NullsLabelled (A : List Fact) (ns : List NullId) (ls : List ℕ) : Type 0 where
   pub nulls : AreNulls A ns
   pub labels : AreLabels A ns ls
 
@@ -61,7 +61,7 @@ block_at bs k = slice_index_or bs k (record { nulls = []; facts = [] })
 
 -- some of the nulls and facts are put into blocks, of which there is one for each place: block k has those nulls that
 -- have the label k, and those facts that hold such a null
-pub record AreFilled (ns : List NullId) (labels : List ℕ) (some : List NullId) (held : List Fact)
+pub record BlocksFilled (ns : List NullId) (labels : List ℕ) (some : List NullId) (held : List Fact)
     (bs : List Block) : Type 0 where
   pub many : length bs ≡ length ns
   pub nulls : (k : ℕ) → k < length ns → NullsAscend (block_at bs k).nulls

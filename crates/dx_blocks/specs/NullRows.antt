@@ -13,7 +13,7 @@ use Rattle.dx_instance.specs.Shown.{NumberedInstance, PartsFit, numbers_of_table
 use Rattle.dx_blocks.specs.declared.block.Block.{Block}
 use Rattle.dx_blocks.specs.declared.numbered.At.{At}
 use Rattle.dx_blocks.specs.declared.numbered.NumberBlock.{NumberBlock}
-use Rattle.dx_blocks.specs.Labels.{AreFilled, AreLabels}
+use Rattle.dx_blocks.specs.Labels.{BlocksFilled, AreLabels}
 use Rattle.dx_blocks.specs.Numbered.{IsOfNumbers, IsRowIn, fact_of, null_under, shown_block}
 
 -- the parts fit, the symbols ascend, and the numbers of their nulls are those from `first` on
@@ -41,13 +41,13 @@ abbrev pub IsRowBefore : ℕ → ℕ → At → Type 0
 IsRowBefore t p a = (a.table < t) ⊎ ((a.table ≡ t) × (a.place < p))
 
 -- rows, in front of place p of table t, with all of those that hold nulls, by tables and places
-pub record AreNullRows (N : NumberedInstance) (first t p : ℕ) (rows : List At) : Type 0 where
+pub record HasNullRows (N : NumberedInstance) (first t p : ℕ) (rows : List At) : Type 0 where
   pub each : Each rows (λ a. IsRowIn N a × IsRowBefore t p a)
   pub all : (a : At) (n : ℕ) → IsRowIn N a → IsRowBefore t p a → n ∈ row_numbers N a → first ≤ n → a ∈ rows
   pub ascend : Ascends (λ (a b : At). IsRowBefore b.table b.place a) rows
 
 -- n is the number of the first null, rs are rows of the instance, and ls the labels of the nulls from n on
-pub record AreLabelledRows (N : NumberedInstance) (n : ℕ) (rs : List At) (ls : List ℕ) : Type 0 where
+pub record RowsLabelled (N : NumberedInstance) (n : ℕ) (rs : List At) (ls : List ℕ) : Type 0 where
   pub first : IsFirstNull N n
   pub rows : Each rs (IsRowIn N)
   pub labels : AreLabels (facts_of N rs) (nulls_from N n) ls
@@ -59,7 +59,7 @@ shown_blocks N bs = map (shown_block N) bs
 -- some facts, and no nulls yet, are put into blocks of numbers of the instance
 pub record HoldFacts (N : NumberedInstance) (n : ℕ) (ls : List ℕ) (held : List Fact)
     (bs : List NumberBlock) : Type 0 where
-  pub filled : AreFilled (nulls_from N n) ls [] held (shown_blocks N bs)
+  pub filled : BlocksFilled (nulls_from N n) ls [] held (shown_blocks N bs)
   pub within : Each bs (IsOfNumbers N)
 
 -- whether a block has nulls
@@ -67,8 +67,8 @@ abbrev pub has_numbers : NumberBlock → Bool
 has_numbers b = nat_lt 0 (length b.nulls)
 
 -- the nulls of A, and A, are put into blocks
-pub record AreBlocksOfRows (N : NumberedInstance) (first : ℕ) (rows : List At) (labels : List ℕ)
+pub record BlocksOfRows (N : NumberedInstance) (first : ℕ) (rows : List At) (labels : List ℕ)
     (bs : List NumberBlock) : Type 0 where
   pub some : List NullId
   pub exactly : (n : NullId) → (n ∈ some) ↔ (Null n ∈ values (facts_of N rows))
-  pub filled : AreFilled (nulls_from N first) labels some (facts_of N rows) (shown_blocks N bs)
+  pub filled : BlocksFilled (nulls_from N first) labels some (facts_of N rows) (shown_blocks N bs)

@@ -23,13 +23,13 @@ pub record AreNulls (A : List Fact) (ns : List NullId) : Type 0 where
   pub exactly : (n : NullId) → (n ∈ ns) ↔ (Null n ∈ values A)
 
 -- each null of the row is listed
-abbrev pub AreKnown : List NullId → List Value → Type 0
-AreKnown ns row = (n : NullId) → Null n ∈ row → n ∈ ns
+abbrev pub AllKnown : List NullId → List Value → Type 0
+AllKnown ns row = (n : NullId) → Null n ∈ row → n ∈ ns
 
 -- ns ascends, and has each null of the row
 pub record KnowsNulls (ns : List NullId) (row : List Value) : Type 0 where
   pub ascend : NullsAscend ns
-  pub known : AreKnown ns row
+  pub known : AllKnown ns row
 
 -- the null at a place stands in the row
 pub record StandsIn (ns : List NullId) (row : List Value) (k : ℕ) : Type 0 where

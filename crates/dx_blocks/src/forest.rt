@@ -1,7 +1,7 @@
 // Trees of numbers in a list that gives each number its parent; a root is its own parent.
 ghost use Rattle.std.specs.Prelude.{◌≡◌, ◌<◌, IfOk, length};
 ghost use Rattle.std.specs.List.{range_with_len};
-ghost use Rattle.dx_blocks.specs.Forest.{AreSameTrees, Falls, IsFlat, IsTreeUnion, IsRootOf};
+ghost use Rattle.dx_blocks.specs.Forest.{SameTrees, Falls, IsFlat, IsTreeUnion, IsRootOf};
 
 use std::alloc::{AllocError, Global};
 
@@ -26,7 +26,7 @@ pub fn singles(alloc: Global, count: usize) -> Result<Vec<usize>, AllocError>
 pub fn root(parents: &mut [usize], number: usize) -> usize
     requires falls { Falls parents.old }
     requires number { number < length parents.old }
-    ensures trees { AreSameTrees parents.old parents.new }
+    ensures trees { SameTrees parents.old parents.new }
     ensures root { IsRootOf parents.new number result }
 {
     let mut found = number;
@@ -56,7 +56,7 @@ pub fn join(parents: &mut [usize], a: usize, b: usize)
 /// Makes each parent a root.
 pub fn flatten(parents: &mut [usize])
     requires { Falls parents.old }
-    ensures trees { AreSameTrees parents.old parents.new }
+    ensures trees { SameTrees parents.old parents.new }
     ensures flat { IsFlat parents.new }
 {
     for i in 0..parents.len() {

@@ -2,7 +2,7 @@
 ghost use Rattle.std.specs.Prelude.{◌≡◌, [], IfOk, OnOk, replicate};
 ghost use Rattle.std.specs.List.{filter};
 ghost use Rattle.dx_model.specs.Values.{FactsAscend};
-ghost use Rattle.dx_blocks.specs.Labels.{AreFilled, AreLabelledNulls, has_nulls};
+ghost use Rattle.dx_blocks.specs.Labels.{BlocksFilled, NullsLabelled, has_nulls};
 
 use crate::block::Block;
 use crate::nulls::first_place;
@@ -32,8 +32,8 @@ pub fn null_blocks(
     nulls: &[NullId],
     labels: &[usize],
 ) -> Result<Vec<Block>, AllocError>
-    requires { AreLabelledNulls facts.now nulls.now labels.now }
-    ensures { IfOk result (λ bs. AreFilled nulls.now labels.now nulls.now [] bs.items) }
+    requires { NullsLabelled facts.now nulls.now labels.now }
+    ensures { IfOk result (λ bs. BlocksFilled nulls.now labels.now nulls.now [] bs.items) }
 {
     let mut blocks = empty_blocks(alloc, nulls.len())?;
     for i in 0..nulls.len() {
@@ -54,9 +54,9 @@ pub fn place_facts(
     blocks: &mut [Block],
 ) -> Result<(), AllocError>
     requires ascend { FactsAscend facts.items }
-    requires labelled { AreLabelledNulls facts.items nulls.now labels.now }
-    requires filled { AreFilled nulls.now labels.now nulls.now [] blocks.old }
-    ensures { OnOk result (AreFilled nulls.now labels.now nulls.now facts.items blocks.new) }
+    requires labelled { NullsLabelled facts.items nulls.now labels.now }
+    requires filled { BlocksFilled nulls.now labels.now nulls.now [] blocks.old }
+    ensures { OnOk result (BlocksFilled nulls.now labels.now nulls.now facts.items blocks.new) }
 {
     for fact in facts {
         if let Some(place) = first_place(nulls, fact.row.items()) {

@@ -2,7 +2,7 @@
 ghost use Rattle.std.specs.Prelude.{◌<◌, ◌≤◌, ◌+◌, IfNone, IfOk, IfSome, OnOk, length};
 ghost use Rattle.dx_base.specs.Members.{◌∈◌, Each};
 ghost use Rattle.dx_instance.specs.Numbers.{ValuesAscend};
-ghost use Rattle.dx_blocks.specs.NullRows.{AreNullRows, IsFirstNull};
+ghost use Rattle.dx_blocks.specs.NullRows.{HasNullRows, IsFirstNull};
 
 use crate::numbered::At;
 use dx_instance::Numbers;
@@ -43,8 +43,8 @@ fn push_rows(
     rows: &mut Vec<At>,
 ) -> Result<(), AllocError>
     requires table { table < length numbers.now.tables }
-    requires before { AreNullRows numbers.now first table 0 rows.old.items }
-    ensures { OnOk result (AreNullRows numbers.now first (table + 1) 0 rows.new.items) }
+    requires before { HasNullRows numbers.now first table 0 rows.old.items }
+    ensures { OnOk result (HasNullRows numbers.now first (table + 1) 0 rows.new.items) }
 {
     for place in 0..numbers.count(table) {
         if let Some(_) = null_in(numbers.row(table, place), first) {
@@ -60,7 +60,7 @@ fn push_rows(
 ///
 /// `AllocError` if there is no memory.
 pub fn null_rows(alloc: Global, numbers: &Numbers<'_>, first: u32) -> Result<Vec<At>, AllocError>
-    ensures { IfOk result (λ rows. AreNullRows numbers.now first (length numbers.now.tables) 0 rows.items) }
+    ensures { IfOk result (λ rows. HasNullRows numbers.now first (length numbers.now.tables) 0 rows.items) }
 {
     let mut rows = Vec::new(alloc);
     for table in 0..numbers.tables() {

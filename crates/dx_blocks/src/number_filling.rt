@@ -3,9 +3,9 @@ ghost use Rattle.std.specs.Prelude.{◌≡◌, [], IfOk, OnOk, replicate};
 ghost use Rattle.std.specs.List.{filter};
 ghost use Rattle.dx_base.specs.Members.{Each};
 ghost use Rattle.dx_model.specs.Values.{FactsAscend};
-ghost use Rattle.dx_blocks.specs.Labels.{AreFilled};
+ghost use Rattle.dx_blocks.specs.Labels.{BlocksFilled};
 ghost use Rattle.dx_blocks.specs.Numbered.{IsOfNumbers};
-ghost use Rattle.dx_blocks.specs.NullRows.{AreBlocksOfRows, AreLabelledRows, HoldFacts, facts_of, has_numbers, nulls_from, shown_blocks};
+ghost use Rattle.dx_blocks.specs.NullRows.{BlocksOfRows, RowsLabelled, HoldFacts, facts_of, has_numbers, nulls_from, shown_blocks};
 
 use crate::null_rows::null_in;
 use crate::numbered::{At, NumberBlock};
@@ -40,10 +40,10 @@ pub fn place_rows(
     labels: &[usize],
     blocks: &mut [NumberBlock],
 ) -> Result<(), AllocError>
-    requires labelled { AreLabelledRows numbers.now first rows.now labels.now }
+    requires labelled { RowsLabelled numbers.now first rows.now labels.now }
     requires ascend { FactsAscend (facts_of numbers.now rows.now) }
     requires held { HoldFacts numbers.now first labels.now [] blocks.old }
-    ensures filled { let N = numbers.now in OnOk result (AreFilled (nulls_from N first) labels.now [] (facts_of N rows.now)
+    ensures filled { let N = numbers.now in OnOk result (BlocksFilled (nulls_from N first) labels.now [] (facts_of N rows.now)
         (shown_blocks N blocks.new)) }
     ensures within { OnOk result (Each blocks.new (IsOfNumbers numbers.now)) }
 {
@@ -67,9 +67,9 @@ pub fn place_nulls(
     labels: &[usize],
     blocks: &mut [NumberBlock],
 ) -> Result<(), AllocError>
-    requires labelled { AreLabelledRows numbers.now first rows.now labels.now }
+    requires labelled { RowsLabelled numbers.now first rows.now labels.now }
     requires held { HoldFacts numbers.now first labels.now (facts_of numbers.now rows.now) blocks.old }
-    ensures filled { OnOk result (AreBlocksOfRows numbers.now first rows.now labels.now blocks.new) }
+    ensures filled { OnOk result (BlocksOfRows numbers.now first rows.now labels.now blocks.new) }
     ensures within { OnOk result (Each blocks.new (IsOfNumbers numbers.now)) }
 {
     for place in 0..labels.len() {

@@ -7,7 +7,7 @@ ghost use Rattle.dx_instance.specs.Numbers.{ValuesAscend};
 ghost use Rattle.dx_instance.specs.Cells.{NumberTable, NumbersAscend};
 ghost use Rattle.dx_instance.specs.Shown.{shown_tables};
 ghost use Rattle.dx_blocks.specs.Blocks.{AreBlocks};
-ghost use Rattle.dx_blocks.specs.NullRows.{AreLabelledRows, AreNullRows, facts_of};
+ghost use Rattle.dx_blocks.specs.NullRows.{RowsLabelled, HasNullRows, facts_of};
 ghost use Rattle.dx_blocks.specs.Numbered.{IsOfNumbers, shown_block};
 
 use crate::null_rows::{first_null, null_rows};
@@ -25,8 +25,8 @@ fn filled_blocks(
     rows: &[At],
     labels: &[usize],
 ) -> Result<Vec<NumberBlock>, AllocError>
-    requires labelled { AreLabelledRows numbers.now first rows.now labels.now }
-    requires rows { AreNullRows numbers.now first (length numbers.now.tables) 0 rows.now }
+    requires labelled { RowsLabelled numbers.now first rows.now labels.now }
+    requires rows { HasNullRows numbers.now first (length numbers.now.tables) 0 rows.now }
     requires ascend { FactsAscend (facts_of numbers.now rows.now) }
     ensures blocks { let N = numbers.now in IfOk result (λ bs. AreBlocks (facts (shown_tables N.symbols N.tables))
         (map (shown_block N) bs.items)) }

@@ -13,14 +13,14 @@ use Rattle.dx_model.specs.declared.rules.Cell.{Cell}
 use Rattle.dx_model.specs.declared.rules.Cell.TheVariants.{Var, Ex, Lit}
 use Rattle.dx_model.specs.declared.rules.Atom.{Atom}
 use Rattle.dx_model.specs.Rules.{cells_of, atom_at}
-use Rattle.dx_instance.specs.Numbers.{AreDistinctValues, value_of, IsConstant}
+use Rattle.dx_instance.specs.Numbers.{ValuesDiffer, value_of, IsConstant}
 use Rattle.dx_instance.specs.Cells.{NumberTable}
-use Rattle.dx_instance.specs.Shown.{AreBelow, PartsFit, numbers_of_table, shown_row, shown_tables}
+use Rattle.dx_instance.specs.Shown.{NumbersBelow, PartsFit, numbers_of_table, shown_row, shown_tables}
 use Rattle.dx_instance.specs.Stored.{TableRows, facts, rows_of}
 use Rattle.dx_instance.proofs.ShownFacts.{row_same}
 use Rattle.dx_instance.proofs.StoredFacts.{row_from_fact, fact_from_row}
 use Rattle.dx_joins.specs.declared.pattern.Pattern.{Pattern}
-use Rattle.dx_joins.specs.Collecting.{AreThose, MoreThan}
+use Rattle.dx_joins.specs.Collecting.{RowsExactly, MoreThan}
 use Rattle.dx_joins.specs.Valued.{IsJoinRow}
 use Rattle.dx_joins.proofs.Distincts.{distinct_map}
 use Rattle.dx_joins.proofs.Translating.{number_in, number_is, number_there, rows_shown, table_in}
@@ -29,7 +29,7 @@ use Rattle.dx_queries.specs.Queries.{assigned, fact_said}
 use Rattle.dx_queries.specs.Results.{PartFits, IsQueryCell}
 use Rattle.dx_queries.proofs.Exist.{cell_there}
 use Rattle.dx_certain.specs.Suiting.{IsSuited, RowSuits, Suits, cell_at, no_atom}
-use Rattle.dx_certain.specs.Naming.{ArePatternsOf, cell_number, variables_among}
+use Rattle.dx_certain.specs.Naming.{PatternsOfAtoms, cell_number, variables_among}
 use Rattle.dx_certain.specs.Finding.{IsConstantAnswer, MoreRows, StandForAnswers, answer_values}
 use Rattle.dx_joins.specs.Joining.{variables_of_patterns}
 use Rattle.dx_certain.proofs.Numbers.{at_number}
@@ -92,7 +92,7 @@ variable_there (Lit t ∷ answer) c m = let r = variable_there answer c m in (r.
 
 -- ---- numbers and values
 
-numbers_back : (S : List Value) (r : List ℕ) → AreDistinctValues S → AreBelow (length S) r → map (number_in S) (shown_row S r) ≡ r
+numbers_back : (S : List Value) (r : List ℕ) → ValuesDiffer S → NumbersBelow (length S) r → map (number_in S) (shown_row S r) ≡ r
 numbers_back S [] a b = refl
 numbers_back S (n ∷ r) a b =
     let first = number_is S n (value_of S n) a (b n (here refl)) refl in
@@ -107,7 +107,7 @@ row_in S T i t r e m = rw (rows_shown S T i) (in_map (shown_row S) (subst (λ (k
 atom_number : (atoms : List Atom) (a : Atom) → a ∈ atoms → (i : ℕ) × (i < length atoms) × (atom_at atoms i ≡ a)
 atom_number atoms a m = let c = contains_from_in m in (c.0, c.1, get_or_default atoms c.0 no_atom a c.1 ∙ c.2)
 
-module _ (K : List TableRows) (S : List Value) (T : List NumberTable) (p : Part) (w : ℕ) (ps : List Pattern) (fits : PartsFit S T) (suited : IsSuited K p (shown_tables S T)) (part : PartFits w p) (named : ArePatternsOf (cells_of p.atoms) p.atoms (length p.atoms) ps) where
+module _ (K : List TableRows) (S : List Value) (T : List NumberTable) (p : Part) (w : ℕ) (ps : List Pattern) (fits : PartsFit S T) (suited : IsSuited K p (shown_tables S T)) (part : PartFits w p) (named : PatternsOfAtoms (cells_of p.atoms) p.atoms (length p.atoms) ps) where
   abbrev pub cells : List Cell
   cells = cells_of p.atoms
 
@@ -120,7 +120,7 @@ module _ (K : List TableRows) (S : List Value) (T : List NumberTable) (p : Part)
   abbrev pub under : (ℕ → ℕ) → Cell → Value
   under numbers c = value_of S (numbers (cell_number cells c))
 
-  below_in : (t : ℕ) (r : List ℕ) → r ∈ (numbers_of_table T t).rows → AreBelow (length S) r
+  below_in : (t : ℕ) (r : List ℕ) → r ∈ (numbers_of_table T t).rows → NumbersBelow (length S) r
   below_in t r m = (fits.each (numbers_of_table T t) (table_in T t r m)).within r m
 
   atom_cells : (i : ℕ) → i < length p.atoms → (c : Cell) → c ∈ (atom_at p.atoms i).cells → c ∈ cells
@@ -174,7 +174,7 @@ module _ (K : List TableRows) (S : List Value) (T : List NumberTable) (p : Part)
       (((λ x. under numbers (Var x)), atom_said numbers join, is), subst (λ (r : List Value). Each r IsConstant) (sym is) each)
 
   -- the numbers of a row of the join are below that of all
-  join_below : (numbers : ℕ → ℕ) → AllJoin numbers → AreBelow (length S) (map numbers shown)
+  join_below : (numbers : ℕ → ℕ) → AllJoin numbers → NumbersBelow (length S) (map numbers shown)
   join_below numbers join n m =
       let r = from_map numbers shown m in
       let k = from_map (cell_number cells) (variables_among p.answer) r.1 in
@@ -236,10 +236,10 @@ module _ (K : List TableRows) (S : List Value) (T : List NumberTable) (p : Part)
   answer_constant : (values : ℕ → Value) (row : List Value) → row ≡ map (assigned values) p.answer → Each row IsConstant → (x : ℕ) → Var x ∈ p.answer → IsConstant (values x)
   answer_constant values row e each x m = each (values x) (subst (λ (r : List Value). values x ∈ r) (sym e) (in_map (assigned values) m))
 
-  pub stand_for : (table : NumberTable) → AreThose (length shown) (IsJoinRow T ps shown) table → StandForAnswers (facts K) p S table
+  pub stand_for : (table : NumberTable) → RowsExactly (length shown) (IsJoinRow T ps shown) table → StandForAnswers (facts K) p S table
   stand_for table h = record {
     wide = λ r m. let j = (h.exact r).0 m in ap length j.2 ∙ (length-map shown j.0 ∙ length-map (variables_among p.answer) (cell_number cells));
-    below = λ r m. let j = (h.exact r).0 m in subst (λ (x : List ℕ). AreBelow (length S) x) (sym j.2) (join_below j.0 j.1);
+    below = λ r m. let j = (h.exact r).0 m in subst (λ (x : List ℕ). NumbersBelow (length S) x) (sym j.2) (join_below j.0 j.1);
     exact = λ row. (
       (λ a. let constant = answer_constant a.0.0 row a.0.2 a.1 in (
         map (numbers_for a.0.0 a.0.1 constant) shown,
@@ -259,8 +259,8 @@ module _ (K : List TableRows) (S : List Value) (T : List NumberTable) (p : Part)
   many_shown : (numbers : ℕ → ℕ) → length (shown_row S (map numbers shown)) ≡ length (variables_among p.answer)
   many_shown numbers = ap length (shown_values numbers) ∙ length-map (variables_among p.answer) (under numbers)
 
-  joined_below : (a : List ℕ) → IsJoinRow T ps shown a → AreBelow (length S) a
-  joined_below a j = subst (λ (x : List ℕ). AreBelow (length S) x) (sym j.2) (join_below j.0 j.1)
+  joined_below : (a : List ℕ) → IsJoinRow T ps shown a → NumbersBelow (length S) a
+  joined_below a j = subst (λ (x : List ℕ). NumbersBelow (length S) x) (sym j.2) (join_below j.0 j.1)
 
   joined_many : (a : List ℕ) → IsJoinRow T ps shown a → length (shown_row S a) ≡ length (variables_among p.answer)
   joined_many a j = subst (λ (x : List ℕ). length (shown_row S x) ≡ length (variables_among p.answer)) (sym j.2) (many_shown j.0)
@@ -281,8 +281,8 @@ module _ (K : List TableRows) (S : List Value) (T : List NumberTable) (p : Part)
   }
 
 pub result_answers : (K : List TableRows) (S : List Value) (T : List NumberTable) (p : Part) (w : ℕ) (ps : List Pattern) (shown : List ℕ) (most : ℕ) (result : Result (Option NumberTable) AllocError)
-    → PartsFit S T → IsSuited K p (shown_tables S T) → PartFits w p → ArePatternsOf (cells_of p.atoms) p.atoms (length p.atoms) ps → shown ≡ map (cell_number (cells_of p.atoms)) (variables_among p.answer)
-    → IfOk result (λ o. MatchOption o (MoreThan most (IsJoinRow T ps shown)) (AreThose (length shown) (IsJoinRow T ps shown)))
+    → PartsFit S T → IsSuited K p (shown_tables S T) → PartFits w p → PatternsOfAtoms (cells_of p.atoms) p.atoms (length p.atoms) ps → shown ≡ map (cell_number (cells_of p.atoms)) (variables_among p.answer)
+    → IfOk result (λ o. MatchOption o (MoreThan most (IsJoinRow T ps shown)) (RowsExactly (length shown) (IsJoinRow T ps shown)))
     → IfOk result (λ o. MatchOption o (MoreRows most (IsConstantAnswer (facts K) p)) (StandForAnswers (facts K) p S))
 result_answers K S T p w ps shown most (Err e) fits suited part named is k = tt
 result_answers K S T p w ps shown most (Ok None) fits suited part named is k = more_answers K S T p w ps fits suited part named most (rw is at k)
@@ -299,10 +299,10 @@ variables_few (Var x ∷ cells) = let r = variables_few cells in omega (arith, r
 variables_few (Ex v ∷ cells) = let r = variables_few cells in omega (arith, r)
 variables_few (Lit t ∷ cells) = let r = variables_few cells in omega (arith, r)
 
-pub named_as : (cells cells' : List Cell) (atoms atoms' : List Atom) (ps : List Pattern) → cells ≡ cells' → atoms ≡ atoms' → ArePatternsOf cells atoms (length atoms) ps → ArePatternsOf cells' atoms' (length atoms') ps
-named_as cells cells' atoms atoms' ps e d k = subst (λ (cs : List Cell). ArePatternsOf cs atoms' (length atoms') ps) e (subst (λ (bs : List Atom). ArePatternsOf cells bs (length bs) ps) d k)
+pub named_as : (cells cells' : List Cell) (atoms atoms' : List Atom) (ps : List Pattern) → cells ≡ cells' → atoms ≡ atoms' → PatternsOfAtoms cells atoms (length atoms) ps → PatternsOfAtoms cells' atoms' (length atoms') ps
+named_as cells cells' atoms atoms' ps e d k = subst (λ (cs : List Cell). PatternsOfAtoms cs atoms' (length atoms') ps) e (subst (λ (bs : List Atom). PatternsOfAtoms cells bs (length bs) ps) d k)
 
-module _ (p : Part) (w : ℕ) (ps : List Pattern) (shown : List ℕ) (part : PartFits w p) (named : ArePatternsOf (cells_of p.atoms) p.atoms (length p.atoms) ps) (is : shown ≡ map (cell_number (cells_of p.atoms)) (variables_among p.answer)) where
+module _ (p : Part) (w : ℕ) (ps : List Pattern) (shown : List ℕ) (part : PartFits w p) (named : PatternsOfAtoms (cells_of p.atoms) p.atoms (length p.atoms) ps) (is : shown ≡ map (cell_number (cells_of p.atoms)) (variables_among p.answer)) where
   pub shown_there : shown ⊆ variables_of_patterns ps
   shown_there n m =
       let k = from_map (cell_number (cells_of p.atoms)) (variables_among p.answer) (rw is at m) in

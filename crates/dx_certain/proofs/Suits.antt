@@ -26,7 +26,7 @@ use Rattle.dx_joins.specs.Planning.{FitPattern}
 use Rattle.dx_joins.proofs.Translating.{rows_shown}
 use Rattle.dx_queries.specs.declared.query.Part.{Part}
 use Rattle.dx_certain.specs.Suiting.{IsSuited, IsSuiting, RowSuits, Suits, cell_at, no_atom}
-use Rattle.dx_certain.specs.Naming.{ArePatternsOf, IsPatternOf, cell_number, variables_among}
+use Rattle.dx_certain.specs.Naming.{PatternsOfAtoms, IsPatternOf, cell_number, variables_among}
 
 -- ---- rows that are gone through
 
@@ -159,11 +159,11 @@ cells_next atoms n a h e = ap cells_of (take_more atoms n a h) ∙ (split (take 
 pub all_next : (atoms : List Atom) (n : ℕ) (a : Atom) (all : List Cell) → n < length atoms → a ≡ get_or atoms n a → all ≡ cells_of (take n atoms) → all ++ a.cells ≡ cells_of (take (n + 1) atoms)
 all_next atoms n a all h e k = ap (λ (l : List Cell). l ++ a.cells) k ∙ sym (cells_next atoms n a h e)
 
-pub named_none : (cells : List Cell) (atoms : List Atom) → ArePatternsOf cells atoms 0 []
+pub named_none : (cells : List Cell) (atoms : List Atom) → PatternsOfAtoms cells atoms 0 []
 named_none cells atoms = record { each = λ p m. elim m [ ]; all = λ i h. absurd (omega (arith, h)); variables = refl }
 
 pub named_more : (cells : List Cell) (atoms : List Atom) (n : ℕ) (ps : List Pattern) (q : Pattern) (a : Atom) → n < length atoms → a ≡ get_or atoms n a → q.table ≡ n → q.variables.items ≡ map (cell_number cells) a.cells
-    → ArePatternsOf cells atoms n ps → ArePatternsOf cells atoms (n + 1) (ps ++ q ∷ [])
+    → PatternsOfAtoms cells atoms n ps → PatternsOfAtoms cells atoms (n + 1) (ps ++ q ∷ [])
 named_more cells atoms n ps q a h e t v k =
     let at : atom_at atoms n ≡ a = sym (e ∙ get_or_default atoms n a no_atom h) in
     let is : IsPatternOf cells n (atom_at atoms n) q = record { table = t; variables = v ∙ ap (λ (b : Atom). map (cell_number cells) b.cells) (sym at) } in
@@ -206,13 +206,13 @@ at_widths S [] (a ∷ atoms) i e h = absurd (cc e)
 at_widths S (t ∷ T) (a ∷ atoms) zero e h = (omega arith, cc e)
 at_widths S (t ∷ T) (a ∷ atoms) (suc i) e h = let k = at_widths S T atoms i (cc e) (omega (arith, h)) in (omega (arith, k.0), k.1)
 
-pub named_fit : (S : List Value) (T : List NumberTable) (cells : List Cell) (atoms : List Atom) (ps : List Pattern) → widths (shown_tables S T) ≡ map (λ (a : Atom). length a.cells) atoms → ArePatternsOf cells atoms (length atoms) ps → Each ps (FitPattern T)
+pub named_fit : (S : List Value) (T : List NumberTable) (cells : List Cell) (atoms : List Atom) (ps : List Pattern) → widths (shown_tables S T) ≡ map (λ (a : Atom). length a.cells) atoms → PatternsOfAtoms cells atoms (length atoms) ps → Each ps (FitPattern T)
 named_fit S T cells atoms ps e k q m =
     let r = k.each q m in
     let w = at_widths S T atoms r.0 e r.1 in
     record { table = rw r.2.table w.0; width = rw r.2.table (w.1 ∙ sym (ap length r.2.variables ∙ length-map (atom_at atoms r.0).cells (cell_number cells))) }
 
-pub named_variables : (cells : List Cell) (atoms : List Atom) (ps : List Pattern) → ArePatternsOf cells atoms (length atoms) ps → variables_of_patterns ps ≡ map (cell_number cells) (cells_of atoms)
+pub named_variables : (cells : List Cell) (atoms : List Atom) (ps : List Pattern) → PatternsOfAtoms cells atoms (length atoms) ps → variables_of_patterns ps ≡ map (cell_number cells) (cells_of atoms)
 named_variables cells atoms ps k = k.variables ∙ ap (λ (l : List Atom). map (cell_number cells) (cells_of l)) (take_all (length atoms) atoms (omega arith))
 
 pub result_suited : (S : List Value) (T : List NumberTable) (p : Part) → PartsFit S T → AtomsFitWidths (widths (shown_tables S T)) p.atoms → (tables : List NumberTable) (K : List TableRows) (result : Result (List TableRows) AllocError)

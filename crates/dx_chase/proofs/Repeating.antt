@@ -5,7 +5,7 @@ use Rattle.std.proofs.lemmas.Bool.{cases_Bool}
 use Rattle.dx_base.specs.Members.{◌⊆◌}
 use Rattle.dx_chase.specs.Demands.{Demand}
 use Rattle.dx_chase.specs.Index.{found}
-use Rattle.dx_chase.specs.Repeats.{AreAskedAt, IsAskedAt, columns_listed}
+use Rattle.dx_chase.specs.Repeats.{IndexesDemands, IsAskedAt, columns_listed}
 use Rattle.dx_chase.specs.Rows.{AddsRows, determination_columns, determination_count}
 use Rattle.dx_chase.specs.Tables.{ChaseTable}
 use Rattle.dx_chase.specs.declared.index.Index.{Index}
@@ -34,21 +34,21 @@ columns_same a b e =
 
 module _ (tables : List ChaseTable) (t : ℕ) where
   -- none is there yet
-  pub there_none : (ds : List Demand) (index : Index) → ((k : List ℕ) → found index k ≡ None) → AreAskedAt tables t ds index
+  pub there_none : (ds : List Demand) (index : Index) → ((k : List ℕ) → found index k ≡ None) → IndexesDemands tables t ds index
   there_none ds index n k c e = let q : None ≡ Some c = sym (n k) ∙ e in absurd (differ q)
     where
       differ : {c : ℕ} → None ≡ Some c → ⊥
       differ q = cc
 
   -- what is there stays
-  pub there_stays : (old new : List Demand) (index : Index) → old ⊆ new → AreAskedAt tables t old index → AreAskedAt tables t new index
+  pub there_stays : (old new : List Demand) (index : Index) → old ⊆ new → IndexesDemands tables t old index → IndexesDemands tables t new index
   there_stays old new index s A k c e =
       let I = A k c e in
       record { inside = I.inside; is = I.is; asked = asked_stays tables t c old new s I.asked }
 
   -- of a determination all is asked if one with the same columns is there
   pub there_asks : (ds : List Demand) (index : Index) (c e : ℕ) (columns : List ℕ) → columns ≡ columns_listed (determination_columns tables t c)
-      → AreAskedAt tables t ds index → found index columns ≡ Some e → AddsRows tables t c ds ds
+      → IndexesDemands tables t ds index → found index columns ≡ Some e → AddsRows tables t c ds ds
   there_asks ds index c e columns q A f =
       let I : IsAskedAt tables t ds columns e = A columns e f in
       let s : determination_columns tables t e ≡ determination_columns tables t c = columns_same _ _ (I.is ∙ q) in
@@ -60,8 +60,8 @@ module _ (tables : List ChaseTable) (t : ℕ) where
 
   -- one more is there
   pub there_more : (old new : List Demand) (index after : Index) (c : ℕ) (columns : List ℕ) → t < length tables → c < determination_count tables t
-      → columns ≡ columns_listed (determination_columns tables t c) → AreAskedAt tables t old index → AddsRows tables t c old new
-      → ((k : List ℕ) → found after k ≡ cond (pointwise nat_eq columns k) (Some c) (found index k)) → AreAskedAt tables t new after
+      → columns ≡ columns_listed (determination_columns tables t c) → IndexesDemands tables t old index → AddsRows tables t c old new
+      → ((k : List ℕ) → found after k ≡ cond (pointwise nat_eq columns k) (Some c) (found index k)) → IndexesDemands tables t new after
   there_more old new index after c columns h l q A B sets k e f = elim (cases_Bool (pointwise nat_eq columns k)) [
     | inl y ↦ here y
     | inr n ↦ there_stays old new index B.stays A k e (sym (rw n at (sets k)) ∙ f)

@@ -20,11 +20,11 @@ pub record IsAskedAt (tables : List ChaseTable) (t : ℕ) (ds : List Demand) (co
   pub asked : IsAskedIn tables t c ds
 
 -- what an index has at columns is such a determination
-abbrev pub AreAskedAt : List ChaseTable → ℕ → List Demand → Index → Type 0
-AreAskedAt tables t ds index =
+abbrev pub IndexesDemands : List ChaseTable → ℕ → List Demand → Index → Type 0
+IndexesDemands tables t ds index =
     (columns : List ℕ) (c : ℕ) → found index columns ≡ Some c → IsAskedAt tables t ds columns c
 
 -- parts whose demands have the numbers below `end`, and an index of determinations that these ask
-pub record AreAdded (tables : List ChaseTable) (t : ℕ) (parts : List Part) (index : Index) (end : ℕ) : Type 0 where
+pub record PartsAndIndex (tables : List ChaseTable) (t : ℕ) (parts : List Part) (index : Index) (end : ℕ) : Type 0 where
   pub lie : LieFrom tables 0 parts end
-  pub there : AreAskedAt tables t (demands_in tables parts) index
+  pub there : IndexesDemands tables t (demands_in tables parts) index

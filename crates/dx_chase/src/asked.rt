@@ -3,8 +3,8 @@ ghost use Rattle.std.specs.Prelude.{◌≡◌, ◌<◌, ◌≤◌, ◌+◌, IfOk
 ghost use Rattle.dx_base.specs.Members.{Each};
 ghost use Rattle.dx_chase.specs.Joins.{demand_at};
 ghost use Rattle.dx_chase.specs.Parts.{LieFrom, demands_in, chase_part_at, picked};
-ghost use Rattle.dx_chase.specs.Repeats.{AreAdded, columns_listed};
-ghost use Rattle.dx_chase.specs.Rows.{AddsRows, AddsTable, AreRowDemands, ColumnsFit, determination_columns, determination_count, number_row, row_count};
+ghost use Rattle.dx_chase.specs.Repeats.{PartsAndIndex, columns_listed};
+ghost use Rattle.dx_chase.specs.Rows.{AddsRows, AddsTable, DemandsOfRows, ColumnsFit, determination_columns, determination_count, number_row, row_count};
 
 use crate::classes::append;
 use crate::index::Index;
@@ -213,10 +213,10 @@ fn add_unless_there(
 ) -> Result<u64, AllocError>
     requires table { table < length tables.now }
     requires determination { determination < determination_count tables.now table }
-    requires parts { AreAdded tables.now table parts.old.items there.old count }
+    requires parts { PartsAndIndex tables.now table parts.old.items there.old count }
     ensures adds { OnOk result (AddsRows tables.now table determination (demands_in tables.now parts.old.items)
         (demands_in tables.now parts.new.items)) }
-    ensures parts { IfOk result (AreAdded tables.now table parts.new.items there.new) }
+    ensures parts { IfOk result (PartsAndIndex tables.now table parts.new.items there.new) }
 {
     let columns = column_list(alloc, columns_of(tables, table, determination))?;
     match there.find(&columns) {
@@ -263,7 +263,7 @@ pub fn demands_of<'a, 't>(
     tables: &'a [NumberTable<'t>],
 ) -> Result<Demands<'a, 't>, AllocError>
     requires { ColumnsFit tables.now }
-    ensures { IfOk result (AreRowDemands tables.now) }
+    ensures { IfOk result (DemandsOfRows tables.now) }
 {
     let mut parts = Vec::new(alloc);
     let mut count = 0u64;

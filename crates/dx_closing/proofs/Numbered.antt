@@ -14,7 +14,7 @@ use Rattle.dx_model.specs.declared.rules.Atom.{Atom}
 use Rattle.dx_model.specs.declared.tables.Link.{Link}
 use Rattle.dx_model.specs.Rules.{cells_of, existential_in, existentials}
 use Rattle.dx_model.specs.Solutions.{AtomFits, cells_in}
-use Rattle.dx_model.specs.Tables.{Table, table_of, AreWithin}
+use Rattle.dx_model.specs.Tables.{Table, table_of, AllInside}
 use Rattle.dx_logical.specs.Filled.{given_item, fresh_below, row_with_fresh}
 use Rattle.dx_model.specs.Fitting.{AreNumbered, ByFirstAppearance}
 use Rattle.dx_schema.specs.Links.{LinkFits, LinksFit}
@@ -46,7 +46,7 @@ row_numbered n ks cells (suc w) b =
     (row_numbered n ks cells w b) (cell_numbered n (fresh_below ks cells w) cells (given_item ks cells w) b (λ x g. given_among ks cells w x g)))
 
 -- chosen cells have no other existential variables
-chosen_below : (n : ℕ) (columns : List ℕ) (row : List Cell) → AreWithin columns (length row) → Below n row → Below n (cells_in columns row)
+chosen_below : (n : ℕ) (columns : List ℕ) (row : List Cell) → AllInside columns (length row) → Below n row → Below n (cells_in columns row)
 chosen_below n columns row h b v m =
     let r = from_flat_map existential_in (cells_in columns row) {y = v} m in
     let k = from_map (λ c. slice_index_or row c (Lit [])) columns {y = r.0} r.1 in

@@ -12,7 +12,7 @@ use Rattle.dx_model.specs.declared.rules.Cell.{Cell}
 use Rattle.dx_model.specs.declared.rules.Cell.TheVariants.{Var, Ex, Lit}
 use Rattle.dx_model.specs.declared.rules.Atom.{Atom}
 use Rattle.dx_model.specs.declared.tables.Link.{Link}
-use Rattle.dx_model.specs.Tables.{Table, table_of, AreWithin}
+use Rattle.dx_model.specs.Tables.{Table, table_of, AllInside}
 use Rattle.dx_model.specs.Solutions.{AtomFits, cells_in}
 use Rattle.dx_logical.specs.Filled.{row_with_fresh}
 use Rattle.dx_schema.specs.Links.{LinkFits, LinksFit}
@@ -24,7 +24,7 @@ use Rattle.dx_closing.proofs.Growth.{adds_links, later}
 use Rattle.dx_closing.proofs.Steps.{new_fits, fits_at}
 use Rattle.dx_logical.proofs.Facts.{filled_at, map_given}
 
-filled_cells : (n : ℕ) (ks : List ℕ) (cells : List Cell) (w : ℕ) → Distinct ks → length ks ≡ length cells → AreWithin ks w → cells_in ks (row_with_fresh Ex n ks cells w) ≡ cells
+filled_cells : (n : ℕ) (ks : List ℕ) (cells : List Cell) (w : ℕ) → Distinct ks → length ks ≡ length cells → AllInside ks w → cells_in ks (row_with_fresh Ex n ks cells w) ≡ cells
 filled_cells n ks cells w a e h =
     map_given ks cells (λ c. slice_index_or (row_with_fresh Ex n ks cells w) c (Lit [])) a e (λ c x m i. filled_at Ex n ks cells w c (Lit []) (h c m) ∙ rw i refl)
 

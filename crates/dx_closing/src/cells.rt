@@ -2,7 +2,7 @@
 ghost use Rattle.std.specs.Prelude.{◌≡◌, ◌+◌, ◌<◌, ◌^◌, IfOk, OnOk, length};
 ghost use Rattle.dx_model.specs.declared.rules.Cell.TheVariants.{Ex};
 ghost use Rattle.dx_model.specs.Solutions.{cells_in};
-ghost use Rattle.dx_model.specs.Tables.{AreWithin};
+ghost use Rattle.dx_model.specs.Tables.{AllInside};
 ghost use Rattle.dx_logical.specs.Filled.{row_with_fresh, fresh_below, given_item};
 ghost use Rattle.dx_closing.specs.Closing.{has_cells, cells_are_one};
 
@@ -34,7 +34,7 @@ pub fn copy_row(alloc: Global, row: &[Cell]) -> Result<Vec<Cell>, AllocError>
 
 /// Copies of the cells of a row in these columns.
 pub fn chosen_cells(alloc: Global, columns: &[u32], row: &[Cell]) -> Result<Vec<Cell>, AllocError>
-    requires { AreWithin columns.now (length row.now) }
+    requires { AllInside columns.now (length row.now) }
     ensures { IfOk result (λ chosen. chosen.items ≡ cells_in columns.now row.now) }
 {
     let mut chosen = Vec::new(alloc);
@@ -47,7 +47,7 @@ pub fn chosen_cells(alloc: Global, columns: &[u32], row: &[Cell]) -> Result<Vec<
 /// Whether a row has these cells in these columns.
 pub fn has_chosen(row: &[Cell], columns: &[u32], cells: &[Cell]) -> bool
     requires pairs { length columns.now ≡ length cells.now }
-    requires within { AreWithin columns.now (length row.now) }
+    requires within { AllInside columns.now (length row.now) }
     ensures { result ≡ has_cells row.now columns.now cells.now }
 {
     for (place, column) in columns.iter().enumerate() {

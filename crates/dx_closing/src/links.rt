@@ -3,7 +3,7 @@ ghost use Rattle.std.specs.Prelude.{◌≡◌, ◌≤◌, ◌<◌, IfErr, OnOk, 
 ghost use Rattle.std.specs.List.{list_any};
 ghost use Rattle.dx_base.specs.Members.{Each};
 ghost use Rattle.dx_model.specs.Solutions.{AtomFits};
-ghost use Rattle.dx_model.specs.Tables.{AreWithin, table_of};
+ghost use Rattle.dx_model.specs.Tables.{AllInside, table_of};
 ghost use Rattle.dx_schema.specs.Tables.{AreTables, model_tables, tables_of};
 ghost use Rattle.dx_schema.specs.Links.{LinkFits};
 ghost use Rattle.dx_closing.specs.declared.fault.CloseFault.TheVariants.{TooWide};
@@ -22,7 +22,7 @@ use std::alloc::Global;
 /// Whether an atom is of the referred table, with the linked cells.
 fn serves_link(atom: &Atom, link: &Link, cells: &[Cell]) -> bool
     requires pairs { length link.now.to ≡ length cells.now }
-    requires within { atom.now.table ≡ link.now.table → AreWithin link.now.to (length atom.now.cells) }
+    requires within { atom.now.table ≡ link.now.table → AllInside link.now.to (length atom.now.cells) }
     ensures { result ≡ serves link.now cells.now atom.now }
 {
     atom.table == link.table && has_chosen(atom.cells.items(), link.to.items(), cells)
@@ -32,7 +32,7 @@ fn serves_link(atom: &Atom, link: &Link, cells: &[Cell]) -> bool
 fn is_served(target: &Schema, atoms: &[Atom], link: &Link, cells: &[Cell]) -> bool
     requires pairs { length link.now.to ≡ length cells.now }
     requires fit { Each atoms.now (AtomFits (model_tables target.now)) }
-    requires within { AreWithin link.now.to (table_of (model_tables target.now) link.now.table).width }
+    requires within { AllInside link.now.to (table_of (model_tables target.now) link.now.table).width }
     ensures { result ≡ list_any (serves link.now cells.now) atoms.now }
 {
     for atom in atoms {

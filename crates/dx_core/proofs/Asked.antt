@@ -13,7 +13,7 @@ use Rattle.dx_model.specs.Instances.{fact_moved, given, moved}
 use Rattle.dx_instance.specs.Cells.{NumberTable}
 use Rattle.dx_instance.specs.Numbers.{value_of}
 use Rattle.dx_instance.specs.Places.{row_at}
-use Rattle.dx_instance.specs.Shown.{AreBelow, NumberedInstance, NumbersFit, PartsFit, numbers_of_table, shown, shown_row}
+use Rattle.dx_instance.specs.Shown.{NumbersBelow, NumberedInstance, NumbersFit, PartsFit, numbers_of_table, shown, shown_row}
 use Rattle.dx_instance.specs.Stored.{TableRows, facts, rows_of}
 use Rattle.dx_instance.proofs.ShownFacts.{all_fit, is_shown, number_same, row_shown}
 use Rattle.dx_instance.proofs.StoredFacts.{fact_from_row}
@@ -41,7 +41,7 @@ module _ (N : NumberedInstance) (fit : PartsFit N.symbols N.tables) where
   table_fits : (t : ℕ) → t < length N.tables → NumbersFit (length N.symbols) (numbers_of_table N.tables t)
   table_fits t h = fit.each (numbers_of_table N.tables t) (in_at N.tables t no_numbers h)
 
-  pub row_below : (at : At) → IsRowIn N at → AreBelow (length N.symbols) (row_numbers N at)
+  pub row_below : (at : At) → IsRowIn N at → NumbersBelow (length N.symbols) (row_numbers N at)
   row_below at r = (table_fits at.table r.table).within (row_numbers N at) (in_at (numbers_of_table N.tables at.table).rows at.place [] r.place)
 
   pub row_wide : (at : At) → IsRowIn N at → length (row_numbers N at) ≡ (numbers_of_table N.tables at.table).width

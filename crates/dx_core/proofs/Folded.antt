@@ -15,7 +15,7 @@ use Rattle.dx_model.proofs.Decided.{decide_in, same_fact}
 use Rattle.dx_instance.specs.Cells.{numbers_at}
 use Rattle.dx_instance.specs.Numbers.{value_of}
 use Rattle.dx_instance.specs.Places.{row_at}
-use Rattle.dx_instance.specs.Shown.{AreBelow, NumberedInstance, PartsFit, numbers_of_table, shown_row}
+use Rattle.dx_instance.specs.Shown.{NumbersBelow, NumberedInstance, PartsFit, numbers_of_table, shown_row}
 use Rattle.dx_blocks.specs.declared.numbered.At.{At}
 use Rattle.dx_blocks.specs.declared.numbered.NumberBlock.{NumberBlock}
 use Rattle.dx_blocks.specs.Numbered.{IsRowIn, fact_of}
@@ -44,7 +44,7 @@ after_end P row ys i h a = subst (λ (r : List ℕ). AllZip P r ys) (take_all i 
 
 module _ (N : NumberedInstance) (fit : PartsFit N.symbols N.tables) (b : NumberBlock) (t : IsTried N b) (xs : List ℕ)
     (long : length xs ≡ length b.nulls) where
-  after_given : (row ys : List ℕ) → AllZip (IsNumberAfter b.nulls xs) row ys → AreBelow (length N.symbols) row
+  after_given : (row ys : List ℕ) → AllZip (IsNumberAfter b.nulls xs) row ys → NumbersBelow (length N.symbols) row
       → shown_row N.symbols ys ≡ map (moved (given (pairs_by N b.nulls xs))) (shown_row N.symbols row)
   after_given [] [] z h = refl
   after_given [] (y ∷ ys) z h = absurd z

@@ -11,7 +11,7 @@ use Rattle.dx_model.specs.declared.values.Value.TheVariants.{Null}
 use Rattle.dx_model.specs.Values.{Ascends, NullsAscend, RowsAscend, null_cmp, value_cmp}
 use Rattle.dx_instance.specs.Cells.{NumberTable, NumbersAscend}
 use Rattle.dx_instance.specs.Numbers.{ValuesAscend, value_of}
-use Rattle.dx_instance.specs.Shown.{AreBelow, NumberedInstance, PartsFit, shown_row, shown_tables}
+use Rattle.dx_instance.specs.Shown.{NumbersBelow, NumberedInstance, PartsFit, shown_row, shown_tables}
 use Rattle.dx_instance.specs.Stored.{TableRows, facts, rows_of}
 use Rattle.dx_instance.proofs.ShownFacts.{is_shown, number_less, row_less}
 use Rattle.dx_instance.proofs.KeyFacts.{from_less}
@@ -64,7 +64,7 @@ all_tried N bs up are within b m =
 
 -- ---- rows
 
-rows_up : (S : List Value) (rows : List (List ℕ)) → ValuesAscend S → Each rows (AreBelow (length S)) → RowsAscend (map (shown_row S) rows)
+rows_up : (S : List Value) (rows : List (List ℕ)) → ValuesAscend S → Each rows (NumbersBelow (length S)) → RowsAscend (map (shown_row S) rows)
     → Ascends (λ r s. slice_cmp nat_cmp r s ≡ Less) rows
 rows_up S [] up below a = tt
 rows_up S (r ∷ rows) up below a = (

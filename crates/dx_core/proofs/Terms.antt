@@ -17,8 +17,8 @@ use Rattle.dx_model.specs.declared.values.Value.TheVariants.{Const, Null}
 use Rattle.dx_model.specs.Instances.{given, moved, same_null}
 use Rattle.dx_model.proofs.Decided.{decide_in, same_value}
 use Rattle.dx_model.proofs.Maps.{same_null-refl, same_null-true}
-use Rattle.dx_instance.specs.Numbers.{AreDistinctValues, value_of}
-use Rattle.dx_instance.specs.Shown.{AreBelow, NumberedInstance, shown_row}
+use Rattle.dx_instance.specs.Numbers.{ValuesDiffer, value_of}
+use Rattle.dx_instance.specs.Shown.{NumbersBelow, NumberedInstance, shown_row}
 use Rattle.dx_instance.proofs.ShownFacts.{number_same}
 use Rattle.dx_blocks.specs.Numbered.{IsNullNumber, null_under}
 use Rattle.dx_solver.specs.declared.atom.Term.{Term}
@@ -35,7 +35,7 @@ place_in S v (inr k) = 0
 abbrev pub number_in : List Value → Value → ℕ
 number_in S v = place_in S v (decide_in same_value v S)
 
-pub number_is : (S : List Value) (y : ℕ) → AreDistinctValues S → y < length S → number_in S (value_of S y) ≡ y
+pub number_is : (S : List Value) (y : ℕ) → ValuesDiffer S → y < length S → number_in S (value_of S y) ≡ y
 number_is S y a h = by (decide_in same_value (value_of S y) S)
   where
     by : (d : (value_of S y ∈ S) ⊎ (¬ (value_of S y ∈ S))) → place_in S (value_of S y) d ≡ y
@@ -102,7 +102,7 @@ not_found ns x i up p m =
 abbrev pub answer_of : List Value → (NullId → Value) → List ℕ → ℕ → ℕ
 answer_of S g nulls v = number_in S (moved g (value_of S (get_or nulls v 0)))
 
-module _ (S : List Value) (apart : AreDistinctValues S) (nulls : List ℕ) (g : NullId → Value) where
+module _ (S : List Value) (apart : ValuesDiffer S) (nulls : List ℕ) (g : NullId → Value) where
   term_is : (x y : ℕ) (t : Term) → IsTermOf nulls x t → x < length S → y < length S
       → (¬ (x ∈ nulls) → moved g (value_of S x) ≡ value_of S x) → moved g (value_of S x) ≡ value_of S y
       → y ≡ number_under (answer_of S g nulls) t
@@ -116,7 +116,7 @@ module _ (S : List Value) (apart : AreDistinctValues S) (nulls : List ℕ) (g : 
   tail : (v w : Value) (vs ws : List Value) → ◌≡◌ {A = List Value} (v ∷ vs) (w ∷ ws) → vs ≡ ws
   tail v w vs ws e = cc e
 
-  pub terms_become : (xs ys : List ℕ) (ts : List Term) → AllZip (IsTermOf nulls) xs ts → AreBelow (length S) xs → AreBelow (length S) ys
+  pub terms_become : (xs ys : List ℕ) (ts : List Term) → AllZip (IsTermOf nulls) xs ts → NumbersBelow (length S) xs → NumbersBelow (length S) ys
       → ((x : ℕ) → x ∈ xs → ¬ (x ∈ nulls) → moved g (value_of S x) ≡ value_of S x)
       → map (moved g) (shown_row S xs) ≡ shown_row S ys → ys ≡ map (number_under (answer_of S g nulls)) ts
   terms_become [] [] [] z h k own e = refl
@@ -131,7 +131,7 @@ module _ (S : List Value) (apart : AreDistinctValues S) (nulls : List ℕ) (g : 
 
 -- ---- numbers for variables give a map of nulls
 
-module _ (N : NumberedInstance) (apart : AreDistinctValues N.symbols) where
+module _ (N : NumberedInstance) (apart : ValuesDiffer N.symbols) where
   -- numbers of nulls differ where their nulls do
   pub null_same : (n m : ℕ) → IsNullNumber N n → IsNullNumber N m → null_under N n ≡ null_under N m → n ≡ m
   null_same n m a b e = number_same N.symbols n m apart a.within b.within (a.is ∙ (ap Null e ∙ sym b.is))
@@ -181,7 +181,7 @@ module _ (N : NumberedInstance) (apart : AreDistinctValues N.symbols) where
         sym (ap (λ (i : ℕ). moved (given (pairs_by N nulls xs)) (value_of N.symbols i)) (sym z.1)
         ∙ (ap (moved (given (pairs_by N nulls xs))) a.is ∙ is_given nulls xs v are up long z.0))
 
-    pub terms_given : (row : List ℕ) (ts : List Term) → AllZip (IsTermOf nulls) row ts → AreBelow (length N.symbols) row
+    pub terms_given : (row : List ℕ) (ts : List Term) → AllZip (IsTermOf nulls) row ts → NumbersBelow (length N.symbols) row
         → shown_row N.symbols (map (number_under (answered xs)) ts) ≡ map (moved (given (pairs_by N nulls xs))) (shown_row N.symbols row)
     terms_given [] [] z h = refl
     terms_given [] (t ∷ ts) z h = absurd z

@@ -34,7 +34,7 @@ use Rattle.dx_exchange.specs.declared.mode.Mode.{Mode}
 use Rattle.dx_exchange.specs.declared.mode.Mode.TheVariants.{Plain, Core}
 use Rattle.dx_exchange.specs.declared.result.Exchange.{Exchange}
 use Rattle.dx_exchange.specs.Exchanging.{ExchangeInput, IsCoreMode, IsExchange, IsOfMode}
-use Rattle.dx_core_laws.specs.Isomorphic.{AreOfOneSource}
+use Rattle.dx_core_laws.specs.Isomorphic.{OfOneSource}
 use Rattle.dx_core_laws.specs.Laws.{CoreModeIsLeast, CoreModeIsOne, CoreModeIsPart, PlainIsOne, PlainPassesOne, in_plain_mode}
 use Rattle.dx_core_laws.proofs.Least.{core_is_least, core_is_part, cores_are_alike}
 use Rattle.dx_core_laws.proofs.Many.{rows_no_more}
@@ -100,7 +100,7 @@ once I up t = ascending_distinct row_cmp row_total (rows_of I t) (up t)
 
 -- ---- two exchanges of one source
 
-module _ (convert : Conversions) (a b : ExchangeInput) (e d : Exchange) (one : AreOfOneSource a b) (x : IsExchange convert a e) (y : IsExchange convert b d) where
+module _ (convert : Conversions) (a b : ExchangeInput) (e d : Exchange) (one : OfOneSource a b) (x : IsExchange convert a e) (y : IsExchange convert b d) where
   pub one_matches : e.matches ≡ d.matches
   one_matches =
       (rows_of_all convert a.rules a.rows e.matches d.matches x.matches

@@ -48,7 +48,7 @@ NoMoreNulls A B = NoMore (IsNullOf A) (IsNullOf B)
 -- ---- exchanges
 
 -- two exchanges are of the same rules into the same schema, and of the same source rows, in whatever order
-pub record AreOfOneSource (a b : ExchangeInput) : Type 0 where
+pub record OfOneSource (a b : ExchangeInput) : Type 0 where
   pub rules : a.rules ≡ b.rules
   pub schema : a.schema ≡ b.schema
   pub rows : a.rows ≈ b.rows

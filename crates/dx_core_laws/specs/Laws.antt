@@ -20,7 +20,7 @@ use Rattle.dx_queries.specs.Queries.{IsCertain}
 use Rattle.dx_queries.specs.Results.{AreConstantAnswers}
 use Rattle.dx_judge.specs.declared.verdict.Verdict.TheVariants as verdicts
 use Rattle.dx_judge.specs.Verdicts.{IsVerdict, JudgeInput}
-use Rattle.dx_core_laws.specs.Isomorphic.{AreAlike, AreIsomorphic, AreOfOneSource}
+use Rattle.dx_core_laws.specs.Isomorphic.{AreAlike, AreIsomorphic, OfOneSource}
 use Rattle.dx_core_laws.specs.Isomorphic.{IsIsomorphism, NoMoreFacts, NoMoreNulls}
 
 -- ---- isomorphisms
@@ -117,7 +117,7 @@ UniversalHasCore =
 -- a plain exchange of the same rules and rows is one: the matches, the fold and the target
 abbrev pub PlainIsOne : Type 0
 PlainIsOne =
-    (convert : Conversions) (a b : ExchangeInput) (e d : Exchange) → AreOfOneSource a b
+    (convert : Conversions) (a b : ExchangeInput) (e d : Exchange) → OfOneSource a b
     → a.mode ≡ modes.Plain → b.mode ≡ modes.Plain
     → IsExchange convert a e → IsExchange convert b d → e ≡ d
 
@@ -132,7 +132,7 @@ PlainPassesOne = (convert : Conversions) → PassesOne (over in_plain_mode (exch
 -- in core mode it is one up to the names of the target's nulls
 abbrev pub CoreModeIsOne : Type 0
 CoreModeIsOne =
-    (convert : Conversions) (a b : ExchangeInput) (e d : Exchange) → AreOfOneSource a b
+    (convert : Conversions) (a b : ExchangeInput) (e d : Exchange) → OfOneSource a b
     → a.mode ≡ modes.Core → b.mode ≡ modes.Core
     → IsExchange convert a e → IsExchange convert b d → AreAlike e d
 
@@ -147,7 +147,7 @@ CoreModeIsLeast =
 -- it is isomorphic to a part of the plain target
 abbrev pub CoreModeIsPart : Type 0
 CoreModeIsPart =
-    (convert : Conversions) (a b : ExchangeInput) (e d : Exchange) → AreOfOneSource a b
+    (convert : Conversions) (a b : ExchangeInput) (e d : Exchange) → OfOneSource a b
     → a.mode ≡ modes.Core → b.mode ≡ modes.Plain
     → IsExchange convert a e → IsExchange convert b d
     → ((P : List Fact) × (P ⊆ facts d.target) × AreIsomorphic (facts e.target) P)

@@ -5,7 +5,7 @@ ghost use Rattle.dx_model.specs.declared.rules.Rule.{Rule as RuleValue};
 ghost use Rattle.dx_model.specs.declared.rules.Cell.TheVariants.{Var as VarCell, Ex as ExCell};
 ghost use Rattle.dx_model.specs.Covers.{below, first_met, is_cell_map, map_of, may_meet, meet, same_cell, same_cells, used_maps};
 ghost use Rattle.dx_model.specs.Fitting.{AgreeInWidths, IsRule};
-ghost use Rattle.dx_cover.specs.Search.{AreAllSeen, MeetInWidths, found_after, has_met_in, maps_under, agrees_with_one};
+ghost use Rattle.dx_cover.specs.Search.{MapsSeen, MeetInWidths, found_after, has_met_in, maps_under, agrees_with_one};
 ghost use Rattle.dx_cover.specs.States.{IsSearch, IsTrueFor, last, same_state, state_of};
 
 use crate::cells::is_same_cell;
@@ -215,7 +215,7 @@ pub(crate) fn is_done(
     bound: &[Meeting],
     found: &[CellMap],
 ) -> Result<bool, AllocError>
-    ensures { IfOk result (λ b. IsTrue b → AreAllSeen problem.now.rule.now bound.now found.now) }
+    ensures { IfOk result (λ b. IsTrue b → MapsSeen problem.now.rule.now bound.now found.now) }
 {
     if !have_met(problem.variables.as_slice(), bound) {
         return Ok(false);

@@ -13,9 +13,9 @@ use Rattle.dx_model.specs.declared.values.Value.TheVariants.{Const, Null}
 use Rattle.dx_model.specs.declared.rules.Cell.{Cell}
 use Rattle.dx_model.specs.Values.{row_cmp}
 use Rattle.dx_model.specs.Rules.{cell_value, text_of}
-use Rattle.dx_instance.specs.Numbers.{AreDistinctValues, value_of}
+use Rattle.dx_instance.specs.Numbers.{ValuesDiffer, value_of}
 use Rattle.dx_instance.proofs.ShownFacts.{number_same}
-use Rattle.dx_joins.specs.Shown.{AreTexts, is_text, texts_of}
+use Rattle.dx_joins.specs.Shown.{AllTexts, is_text, texts_of}
 use Rattle.dx_instance.specs.Ranks.{text_of_value}
 use Rattle.dx_joins.proofs.Translating.{text_back}
 use Rattle.dx_cover_fold.specs.declared.number_at.NumberAt.{NumberAt}
@@ -28,13 +28,13 @@ use Rattle.dx_cover_fold.proofs.Finding.{row_exact, row_itself}
 symbol_in : (S : List Value) (v : Value) (n : ℕ) → IsSymbol S v n → v ∈ S
 symbol_in S v n h = subst (λ (x : Value). x ∈ S) h.value (in_at S n (Const []) h.within)
 
-same_symbols : (S : List Value) (v w : Value) (a b : ℕ) → AreDistinctValues S → IsSymbol S v a → IsSymbol S w b → (a ≡ b) ↔ (v ≡ w)
+same_symbols : (S : List Value) (v w : Value) (a b : ℕ) → ValuesDiffer S → IsSymbol S v a → IsSymbol S w b → (a ≡ b) ↔ (v ≡ w)
 same_symbols S v w a b p h k = (
   (λ e. sym h.value ∙ ap (value_of S) e ∙ k.value),
   (λ e. number_same S a b p h.within k.within (h.value ∙ e ∙ sym k.value)),
 )
 
-pub code_exact : (S : List Value) (v w : Value) (a b : ℕ) → AreDistinctValues S → IsHeld S v → IsCode S v a → IsCode S w b → (a ≡ b) ↔ (v ≡ w)
+pub code_exact : (S : List Value) (v w : Value) (a b : ℕ) → ValuesDiffer S → IsHeld S v → IsCode S v a → IsCode S w b → (a ≡ b) ↔ (v ≡ w)
 code_exact S v w a b p held (inl h) (inl k) = same_symbols S v w a b p h k
 code_exact S v w a b p held (inl h) (inr (inl k)) = (
   (λ e. absurd (omega (arith, e, h.within, k.number))),
@@ -84,7 +84,7 @@ first_number a b ms ns e = cc e
 rest_numbers : (a b : ℕ) (ms ns : List ℕ) → ◌≡◌ {A = List ℕ} (a ∷ ms) (b ∷ ns) → ms ≡ ns
 rest_numbers a b ms ns e = cc e
 
-codes_same : (S : List Value) (vs ws : List Value) (ms ns : List ℕ) → AreDistinctValues S → Each vs (IsHeld S) → AllZip (IsCode S) vs ms → AllZip (IsCode S) ws ns → ms ≡ ns → vs ≡ ws
+codes_same : (S : List Value) (vs ws : List Value) (ms ns : List ℕ) → ValuesDiffer S → Each vs (IsHeld S) → AllZip (IsCode S) vs ms → AllZip (IsCode S) ws ns → ms ≡ ns → vs ≡ ws
 codes_same S [] [] [] [] p held h k e = refl
 codes_same S (v ∷ vs) [] (a ∷ ms) [] p held h k e = absurd (cc e)
 codes_same S [] (w ∷ ws) [] (b ∷ ns) p held h k e = absurd (cc e)
@@ -97,7 +97,7 @@ codes_same S (v ∷ vs) ws [] ns p held h k e = absurd h
 codes_same S vs [] ms (b ∷ ns) p held h k e = absurd k
 codes_same S vs (w ∷ ws) ms [] p held h k e = absurd k
 
-values_same : (S : List Value) (vs ws : List Value) (ms ns : List ℕ) → AreDistinctValues S → Each vs (IsHeld S) → AllZip (IsCode S) vs ms → AllZip (IsCode S) ws ns → vs ≡ ws → ms ≡ ns
+values_same : (S : List Value) (vs ws : List Value) (ms ns : List ℕ) → ValuesDiffer S → Each vs (IsHeld S) → AllZip (IsCode S) vs ms → AllZip (IsCode S) ws ns → vs ≡ ws → ms ≡ ns
 values_same S [] [] [] [] p held h k e = refl
 values_same S (v ∷ vs) [] (a ∷ ms) [] p held h k e = absurd (cc e)
 values_same S [] (w ∷ ws) [] (b ∷ ns) p held h k e = absurd (cc e)
@@ -111,7 +111,7 @@ values_same S vs [] ms (b ∷ ns) p held h k e = absurd k
 values_same S vs (w ∷ ws) ms [] p held h k e = absurd k
 
 -- rows compare ms equal exactly if their numbers are the same
-pub rows_alike : (S : List Value) (vs ws : List Value) (ms ns : List ℕ) → AreDistinctValues S → Each vs (IsHeld S) → AllZip (IsCode S) vs ms → AllZip (IsCode S) ws ns → pointwise nat_eq ms ns ≡ is_at (row_cmp vs) ws
+pub rows_alike : (S : List Value) (vs ws : List Value) (ms ns : List ℕ) → ValuesDiffer S → Each vs (IsHeld S) → AllZip (IsCode S) vs ms → AllZip (IsCode S) ws ns → pointwise nat_eq ms ns ≡ is_at (row_cmp vs) ws
 rows_alike S vs ws ms ns p held h k = same_test (pointwise nat_eq ms ns) (is_at (row_cmp vs) ws) there_is back
   where
     there_is : pointwise nat_eq ms ns ≡ true → is_at (row_cmp vs) ws ≡ true
@@ -124,7 +124,7 @@ rows_alike S vs ws ms ns p held h k = same_test (pointwise nat_eq ms ns) (is_at 
 
 -- ---- what cells say in a row
 
-pub codes_said : (S : List Value) (variables : List ℕ) (width rule place : ℕ) (row : List ℕ) (cells : List Cell) (plan : List NumberAt) → length row ≡ width → AreTexts S row
+pub codes_said : (S : List Value) (variables : List ℕ) (width rule place : ℕ) (row : List ℕ) (cells : List Cell) (plan : List NumberAt) → length row ≡ width → AllTexts S row
     → AllZip (IsPlanned S variables width) cells plan
     → AllZip (IsCode S) (map (cell_value (text_of variables (texts_of S row)) (λ v. Null (record { rule = rule; var = v; row = place }))) cells) (numbers_by plan row)
 codes_said S variables width rule place row [] [] e t h = tt
@@ -140,7 +140,7 @@ plan_columns S variables width (c ∷ cells) (q ∷ plan) h p (here e) = subst (
 plan_columns S variables width (c ∷ cells) (q ∷ plan) h p (there m) = plan_columns S variables width cells plan h.1 p m
 
 -- a text of a variable is one of the row, or empty
-text_held : (S : List Value) (variables row : List ℕ) (x : ℕ) → AreTexts S row → IsHeld S (Const (text_of variables (texts_of S row) x))
+text_held : (S : List Value) (variables row : List ℕ) (x : ℕ) → AllTexts S row → IsHeld S (Const (text_of variables (texts_of S row) x))
 text_held S [] row x t = inr refl
 text_held S (y ∷ ys) [] x t = inr refl
 text_held S (y ∷ ys) (n ∷ row) x t = elim (cases_Bool (eqb x y)) [
@@ -151,7 +151,7 @@ text_held S (y ∷ ys) (n ∷ row) x t = elim (cases_Bool (eqb x y)) [
     symbol_text : (n : ℕ) → (n < length S) × (is_text (value_of S n) ≡ true) → (Const (text_of_value (value_of S n)) ∈ S) × (is_text (Const (text_of_value (value_of S n))) ≡ true)
     symbol_text n h = (subst (λ (v : Value). v ∈ S) (sym (text_back (value_of S n) h.1)) (in_at S n (Const []) h.0), refl)
 
-pub texts_held : (S : List Value) (variables row xs : List ℕ) (f : ℕ → Value) → AreTexts S row → ((x : ℕ) → f x ≡ Const (text_of variables (texts_of S row) x)) → Each (map f xs) (IsHeld S)
+pub texts_held : (S : List Value) (variables row xs : List ℕ) (f : ℕ → Value) → AllTexts S row → ((x : ℕ) → f x ≡ Const (text_of variables (texts_of S row) x)) → Each (map f xs) (IsHeld S)
 texts_held S variables row [] f t e v m = elim m [ ]
 texts_held S variables row (x ∷ xs) f t e v (here d) = subst (IsHeld S) (sym (e x) ∙ d) (text_held S variables row x t)
 texts_held S variables row (x ∷ xs) f t e v (there m) = texts_held S variables row xs f t e v m

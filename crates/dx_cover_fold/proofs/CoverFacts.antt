@@ -22,14 +22,14 @@ use Rattle.dx_model.specs.Values.{Rows, Tuple, row_cmp}
 use Rattle.dx_model.specs.Rules.{exported, text_of}
 use Rattle.dx_model.specs.Covers.{agrees, below, before, image_of, places_by, rule_at, used_maps, cell_value_at, value_under}
 use Rattle.dx_instance.specs.Cells.{NumberTable, numbers_at}
-use Rattle.dx_instance.specs.Numbers.{AreDistinctValues}
+use Rattle.dx_instance.specs.Numbers.{ValuesDiffer}
 use Rattle.dx_instance.specs.Shown.{NumberedInstance, numbers_of_table}
-use Rattle.dx_joins.specs.Shown.{AreTexts, texts_of}
+use Rattle.dx_joins.specs.Shown.{AllTexts, texts_of}
 use Rattle.dx_cover_fold.specs.declared.found.Found.{Found}
 use Rattle.dx_cover_fold.specs.declared.index.Index.{Index}
 use Rattle.dx_cover_fold.specs.declared.number_at.NumberAt.{NumberAt}
 use Rattle.dx_cover_fold.specs.Codes.{IsCode, IsHeld, IsPlanned, numbers_by}
-use Rattle.dx_cover_fold.specs.Found.{AreOrFirsts, FindsAmong, IndexesCells, cover_of, first_row_of, images_by, no_map, or_first, own_rows, row_said, variable_cells}
+use Rattle.dx_cover_fold.specs.Found.{LeastOfFirsts, FindsAmong, IndexesCells, cover_of, first_row_of, images_by, no_map, or_first, own_rows, row_said, variable_cells}
 use Rattle.dx_cover_fold.specs.Matched.{matched_tuples}
 use Rattle.dx_cover_fold.proofs.CodeFacts.{codes_said, rows_alike, texts_held}
 use Rattle.dx_cover_fold.proofs.Finding.{all_agree, find_alike, find_below, find_mapped, map_map, map_or}
@@ -37,7 +37,7 @@ use Rattle.dx_cover_fold.proofs.Finding.{all_agree, find_alike, find_below, find
 -- ---- one place more
 
 pub firsts_more : (rule map n : ℕ) (index : Index) (rows : List (List ℕ)) (own : List NumberAt) (row : List ℕ) (known found new : List (Option Found)) (o : Option Found) → row ≡ numbers_at rows n → o ≡ or_first rule map index own (get_or known n None) row → new ≡ found ++ o ∷ []
-    → AreOrFirsts rule map index rows own known found n → AreOrFirsts rule map index rows own known new (n + 1)
+    → LeastOfFirsts rule map index rows own known found n → LeastOfFirsts rule map index rows own known new (n + 1)
 firsts_more rule map n index rows own row known found new o r e q h = rw q (record {
   many = length_push found o ∙ ap (λ (m : ℕ). m + 1) h.many;
   each = below_more _ _ (λ k l. get_or_append_left found (o ∷ []) None k (omega (arith, l, h.many)) ∙ h.each k l)
@@ -48,7 +48,7 @@ firsts_more rule map n index rows own row known found new o r e q h = rw q (reco
 
 -- rows of one width that stand for texts
 pub record AreTextRows (S : List Value) (t : NumberTable) : Type 0 where
-  pub texts : Each t.rows (AreTexts S)
+  pub texts : Each t.rows (AllTexts S)
   pub wide : Each t.rows (λ (r : List ℕ). length r ≡ t.width)
 
 module _ (R : List Rule) (rows : Rows) (i j : ℕ) (m : CellMap) where
@@ -77,10 +77,10 @@ module _ (R : List Rule) (rows : Rows) (i j : ℕ) (m : CellMap) where
       ∙ ap (option_map place) (find_alike (λ l. agrees R rows i k (place l)) (λ l. is_at (row_cmp (own_rows R rows i k)) (said_there l)) (below (length (get_or rows j []))) (agrees_is k))
 
   pub map_more : (S : List Value) (from to : NumberTable) (own : List NumberAt) (number : ℕ) (index : Index) (known found : List (Option Found)) (C : List Cover)
-      → get_or rows i [] ≡ map (texts_of S) from.rows → get_or rows j [] ≡ map (texts_of S) to.rows → AreDistinctValues S → AreTextRows S from → AreTextRows S to
+      → get_or rows i [] ≡ map (texts_of S) from.rows → get_or rows j [] ≡ map (texts_of S) to.rows → ValuesDiffer S → AreTextRows S from → AreTextRows S to
       → get_or (used_maps (rule_at R i) (rule_at R j)) number no_map ≡ m → length known ≡ length from.rows
       → AllZip (IsPlanned S (exported (rule_at R i)) from.width) (variable_cells (rule_at R i)) own → IndexesCells S to (exported (rule_at R j)) (images_by (rule_at R i) m) index
-      → AreOrFirsts j number index from.rows own known found (length from.rows) → FindsAmong R rows i C known → FindsAmong R rows i (C ++ places_by rows j m) found
+      → LeastOfFirsts j number index from.rows own known found (length from.rows) → FindsAmong R rows i C known → FindsAmong R rows i (C ++ places_by rows j m) found
   unfolding place said_there
   map_more S from to own number index known found C here there apart f t e long a x o h k lt =
       let l : k < length from.rows = omega (arith, lt, o.many) in

@@ -10,7 +10,7 @@ use Rattle.dx_model.specs.Values.{Tuple}
 use Rattle.dx_base.specs.Texts.{Text}
 use Rattle.dx_model.specs.Rules.{text_of}
 use Rattle.dx_instance.specs.Numbers.{value_of}
-use Rattle.dx_joins.specs.Shown.{AreTexts, texts_of}
+use Rattle.dx_joins.specs.Shown.{AllTexts, texts_of}
 use Rattle.dx_instance.specs.Ranks.{text_of_value}
 use Rattle.dx_joins.proofs.Translating.{text_back}
 use Rattle.dx_cover_fold.specs.declared.number_at.NumberAt.TheVariants.{Column, Fixed}
@@ -34,7 +34,7 @@ found_past variables width x i y l k a n f = record {
 pub plan_column : (S : List Value) (variables : List ℕ) (width x i y : ℕ) → i < length variables → i < width → y ≡ get_or variables i y → x ≡ y → FoundFrom variables width x i → IsPlanned S variables width (Var x) (Column i)
 plan_column S variables width x i y l k a q f = record { column = k; code = code }
   where
-    code : (rule place : ℕ) (row : List ℕ) → length row ≡ width → AreTexts S row → IsCode S (Const (text_of variables (texts_of S row) x)) (get_or row i 0)
+    code : (rule place : ℕ) (row : List ℕ) → length row ≡ width → AllTexts S row → IsCode S (Const (text_of variables (texts_of S row) x)) (get_or row i 0)
     code rule place row e t =
         let long : length (texts_of S row) ≡ width = length-map row (λ n. text_of_value (value_of S n)) ∙ e in
         let at : i < length (texts_of S row) = omega (arith, long, k) in
@@ -54,7 +54,7 @@ plan_nothing S variables width x i n past f c = record { column = tt; code = cod
         let w = text_nowhere variables t i x in
         f.same t e ∙ elim past [ inl l ↦ w.0 l | inr r ↦ w.1 (omega (arith, e, r)) ]
 
-    code : (rule place : ℕ) (row : List ℕ) → length row ≡ width → AreTexts S row → IsCode S (Const (text_of variables (texts_of S row) x)) n
+    code : (rule place : ℕ) (row : List ℕ) → length row ≡ width → AllTexts S row → IsCode S (Const (text_of variables (texts_of S row) x)) n
     code rule place row e t =
         let long : length (texts_of S row) ≡ width = length-map row (λ n. text_of_value (value_of S n)) ∙ e in
         subst (λ (v : Value). IsCode S v n) (ap Const (sym (empty (texts_of S row) long))) c

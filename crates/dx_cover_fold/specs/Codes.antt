@@ -6,7 +6,7 @@ use Rattle.dx_model.specs.declared.values.Value.TheVariants.{Const, Null}
 use Rattle.dx_model.specs.declared.rules.Cell.{Cell}
 use Rattle.dx_model.specs.Rules.{cell_value, text_of}
 use Rattle.dx_instance.specs.Numbers.{value_of}
-use Rattle.dx_joins.specs.Shown.{AreTexts, is_text, texts_of}
+use Rattle.dx_joins.specs.Shown.{AllTexts, is_text, texts_of}
 use Rattle.dx_cover_fold.specs.declared.number_at.NumberAt.{NumberAt}
 use Rattle.dx_cover_fold.specs.declared.number_at.NumberAt.TheVariants.{Column, Fixed}
 
@@ -51,6 +51,6 @@ numbers_by plan row = map (number_told row) plan
 -- in each row of texts of this width is found by which number what a cell says is compared
 pub record IsPlanned (symbols : List Value) (variables : List ℕ) (width : ℕ) (c : Cell) (p : NumberAt) : Type 0 where
   pub column : RowHasColumn width p
-  pub code : (rule place : ℕ) (row : List ℕ) → length row ≡ width → AreTexts symbols row
+  pub code : (rule place : ℕ) (row : List ℕ) → length row ≡ width → AllTexts symbols row
       → IsCode symbols (cell_value (text_of variables (texts_of symbols row))
       (λ v. Null (record { rule = rule; var = v; row = place })) c) (number_told row p)

@@ -79,13 +79,13 @@ abbrev pub own_rows : List Rule → Rows → ℕ → ℕ → List Value
 own_rows R rows i k = map (λ x. cell_value_at R rows i k (Var x)) (exported (rule_at R i))
 
 -- the plan of the exported variables of rule i
-abbrev pub AreOwn : List Rule → NumberedInstance → ℕ → List NumberAt → Type 0
-AreOwn R m i own =
+abbrev pub OwnNumbers : List Rule → NumberedInstance → ℕ → List NumberAt → Type 0
+OwnNumbers R m i own =
     AllZip (IsPlanned m.symbols (exported (rule_at R i)) (numbers_of_table m.tables i).width)
     (variable_cells (rule_at R i)) own
 
 -- the covers are those between the rules, which can be counted, and each rule has a table of matches
-pub record AreOfRules (R : List Rule) (maps : List (List (List CellMap))) (m : NumberedInstance) : Type 0 where
+pub record CoversOfRules (R : List Rule) (maps : List (List (List CellMap))) (m : NumberedInstance) : Type 0 where
   pub covers : maps ≡ covers_of R
   pub few : length R < 2 ^ 32
   pub one : length m.tables ≡ length R
@@ -93,7 +93,7 @@ pub record AreOfRules (R : List Rule) (maps : List (List (List CellMap))) (m : N
 -- the plan is that of the exported variables of rule i, and something or nothing is known of each of its places
 pub record IsBegun (R : List Rule) (m : NumberedInstance) (i : ℕ) (plan : List NumberAt)
     (known : List (Option Found)) : Type 0 where
-  pub own : AreOwn R m i plan
+  pub own : OwnNumbers R m i plan
   pub many : length known ≡ length (slice_index_or (matched_tuples m) i [])
 
 -- what is known of a place, or else what the index gives for the numbers of its row
@@ -103,14 +103,14 @@ or_first rule map index own known row =
     (first_row_of index (numbers_by own row)))
 
 -- the same for each of the first places
-pub record AreOrFirsts (rule map : ℕ) (index : Index) (rows : List (List ℕ)) (own : List NumberAt)
+pub record LeastOfFirsts (rule map : ℕ) (index : Index) (rows : List (List ℕ)) (own : List NumberAt)
     (known found : List (Option Found)) (n : ℕ) : Type 0 where
   pub many : length found ≡ n
   pub each : (k : ℕ) → k < n → slice_index_or found k None
       ≡ or_first rule map index own (slice_index_or known k None) (numbers_at rows k)
 
 -- for each place of rule i its least cover
-pub record AreLeast (R : List Rule) (rows : Rows) (i : ℕ) (found : List (Option Found)) : Type 0 where
+pub record LeastCovers (R : List Rule) (rows : Rows) (i : ℕ) (found : List (Option Found)) : Type 0 where
   pub many : length found ≡ length (slice_index_or rows i [])
   pub each : (k : ℕ) → k < length found
       → option_map (cover_of R i) (slice_index_or found k None) ≡ least_cover R rows i k
@@ -118,4 +118,4 @@ pub record AreLeast (R : List Rule) (rows : Rows) (i : ℕ) (found : List (Optio
 -- for each of the first rules the least covers of its places
 pub record AllLeast (R : List Rule) (rows : Rows) (found : List (List (Option Found))) (n : ℕ) : Type 0 where
   pub many : length found ≡ n
-  pub each : (i : ℕ) → i < n → AreLeast R rows i (slice_index_or found i [])
+  pub each : (i : ℕ) → i < n → LeastCovers R rows i (slice_index_or found i [])

@@ -4,9 +4,9 @@ use Rattle.dx_base.specs.Members.{Each}
 use Rattle.dx_model.specs.declared.values.Value.{Value}
 use Rattle.dx_model.specs.Values.{Rows}
 use Rattle.dx_instance.specs.Cells.{NumberTable}
-use Rattle.dx_instance.specs.Numbers.{AreDistinctValues}
+use Rattle.dx_instance.specs.Numbers.{ValuesDiffer}
 use Rattle.dx_instance.specs.Shown.{NumberedInstance}
-use Rattle.dx_joins.specs.Shown.{AreTexts, texts_of}
+use Rattle.dx_joins.specs.Shown.{AllTexts, texts_of}
 
 -- the tuples of each rule
 abbrev pub tuples_of : List Value → List NumberTable → Rows
@@ -19,6 +19,6 @@ matched_tuples m = tuples_of m.symbols m.tables
 -- what holds of rows that are compared by their numbers: symbols are distinct, and two more numbers are left; each
 -- number of a row stands for a text
 pub record RowsAreComparable (symbols : List Value) (tables : List NumberTable) : Type 0 where
-  pub apart : AreDistinctValues symbols
+  pub apart : ValuesDiffer symbols
   pub few : length symbols < 2 ^ 32 - 1
-  pub texts : Each tables (λ (t : NumberTable). Each t.rows (AreTexts symbols))
+  pub texts : Each tables (λ (t : NumberTable). Each t.rows (AllTexts symbols))

@@ -8,7 +8,7 @@ ghost use Rattle.dx_model.specs.Covers.{places_by, rule_at, used_maps};
 ghost use Rattle.dx_cover_fold.specs.Matched.{matched_tuples};
 ghost use Rattle.dx_cover.specs.Covering.{covers_of};
 ghost use Rattle.dx_cover_fold.specs.Codes.{RowHasColumn, IsPlanned};
-ghost use Rattle.dx_cover_fold.specs.Found.{AreLeast, AreOfRules, AreOrFirsts, AreOwn, FindsAmong, IndexesCells, IsBegun, images_by};
+ghost use Rattle.dx_cover_fold.specs.Found.{LeastCovers, CoversOfRules, LeastOfFirsts, OwnNumbers, FindsAmong, IndexesCells, IsBegun, images_by};
 ghost use Rattle.dx_cover_fold.specs.Found.{no_map, or_first as first_or, variable_cells};
 
 use crate::found::Found;
@@ -69,7 +69,7 @@ impl MapIndex {
     ) -> Result<Vec<Option<Found>>, AllocError>
         requires columns { Each own.now (RowHasColumn rows.now.width) }
         requires many { length known.now ≡ length rows.now.rows }
-        ensures { IfOk result (λ v. AreOrFirsts self.now.rule self.now.map self.now.index rows.now.rows own.now known.now v.items
+        ensures { IfOk result (λ v. LeastOfFirsts self.now.rule self.now.map self.now.index rows.now.rows own.now known.now v.items
             (length rows.now.rows)) }
     {
         let mut all = Vec::with_capacity(alloc, known.len())?;
@@ -167,8 +167,8 @@ impl<'a, 'm> Covering<'a, 'm> {
     fn least(&self) -> Result<Vec<Option<Found>>, AllocError>
         requires covers { self.now.covers.now ≡ covers_of self.now.rules.now }
         requires few { length self.now.rules.now < 2 ^ 32 }
-        requires own { AreOwn self.now.rules.now self.now.matches.now self.now.rule self.now.own.items }
-        ensures { IfOk result (λ v. AreLeast self.now.rules.now (matched_tuples self.now.matches.now) self.now.rule v.items) }
+        requires own { OwnNumbers self.now.rules.now self.now.matches.now self.now.rule self.now.own.items }
+        ensures { IfOk result (λ v. LeastCovers self.now.rules.now (matched_tuples self.now.matches.now) self.now.rule v.items) }
     {
         let mut found = none_known(self.alloc, self.matches.places(self.rule) as usize)?;
         for other in 0..self.rules.len() {
@@ -203,7 +203,7 @@ fn own_of(
 ) -> Result<Vec<NumberAt>, AllocError>
     requires from { rule < length rules.now }
     requires one { length matches.now.tables ≡ length rules.now }
-    ensures { IfOk result (λ v. AreOwn rules.now matches.now rule v.items) }
+    ensures { IfOk result (λ v. OwnNumbers rules.now matches.now rule v.items) }
 {
     own_by(
         alloc,
@@ -233,9 +233,9 @@ pub(crate) fn least_covers(
     matches: &Matched<'_>,
     rule: u32,
 ) -> Result<Vec<Option<Found>>, AllocError>
-    requires rules { AreOfRules rules.now covers.now matches.now }
+    requires rules { CoversOfRules rules.now covers.now matches.now }
     requires from { rule < length rules.now }
-    ensures { IfOk result (λ v. AreLeast rules.now (matched_tuples matches.now) rule v.items) }
+    ensures { IfOk result (λ v. LeastCovers rules.now (matched_tuples matches.now) rule v.items) }
 {
     let covering = Covering {
         alloc,

@@ -5,9 +5,9 @@ ghost use Rattle.dx_model.specs.Rules.{exported as exported_of};
 ghost use Rattle.dx_model.specs.declared.rules.Cell.TheVariants.{Ex as ExCell};
 ghost use Rattle.dx_model.specs.Covers.{IsPlace, folded, least_cover, value_under};
 ghost use Rattle.dx_cover_fold.specs.Matched.{matched_tuples};
-ghost use Rattle.dx_joins.specs.Shown.{AreTexts};
+ghost use Rattle.dx_joins.specs.Shown.{AllTexts};
 ghost use Rattle.dx_cover.specs.Covering.{covers_of};
-ghost use Rattle.dx_cover_fold.specs.Found.{AllLeast, AreOfRules, cover_of};
+ghost use Rattle.dx_cover_fold.specs.Found.{AllLeast, CoversOfRules, cover_of};
 ghost use Rattle.dx_cover_fold.specs.Folding.{IsCoverFold};
 ghost use Rattle.dx_cover_fold.specs.Matched.{tuples_of};
 
@@ -40,7 +40,7 @@ fn all_covers(
     covers: &Covers,
     matches: &Matched<'_>,
 ) -> Result<Vec<Items<Option<Found>>>, AllocError>
-    requires { AreOfRules rules.now covers.now matches.now }
+    requires { CoversOfRules rules.now covers.now matches.now }
     ensures { IfOk result (λ v. AllLeast rules.now (matched_tuples matches.now) v.items (length rules.now)) }
 {
     let mut all = Vec::new(alloc);
@@ -142,7 +142,7 @@ fn fold_of_matched(
     covers: &Covers,
     matches: &Matched<'_>,
 ) -> Result<NullMap, AllocError>
-    requires { AreOfRules rules.now covers.now matches.now }
+    requires { CoversOfRules rules.now covers.now matches.now }
     ensures { IfOk result (IsCoverFold rules.now (matched_tuples matches.now)) }
 {
     let fold = Fold {
@@ -171,7 +171,7 @@ pub fn cover_fold(
 ) -> Result<NullMap, AllocError>
     requires covers { covers.now ≡ covers_of rules.now }
     requires one { length tables.now ≡ length rules.now }
-    requires texts { Each tables.now (λ t. Each t.rows (AreTexts symbols.now)) }
+    requires texts { Each tables.now (λ t. Each t.rows (AllTexts symbols.now)) }
     ensures { IfOk result (IsCoverFold rules.now (tuples_of symbols.now tables.now)) }
 {
     if rules.len() > u32::MAX as usize {

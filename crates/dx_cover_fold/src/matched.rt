@@ -4,9 +4,9 @@ ghost use Rattle.dx_base.specs.Members.{◌∈◌, Each};
 ghost use Rattle.dx_model.specs.declared.values.Value.TheVariants.{Const as ConstValue};
 ghost use Rattle.dx_model.specs.Covers.{tuple_at};
 ghost use Rattle.dx_cover_fold.specs.Matched.{matched_tuples};
-ghost use Rattle.dx_instance.specs.Numbers.{AreDistinctValues, value_of};
+ghost use Rattle.dx_instance.specs.Numbers.{ValuesDiffer, value_of};
 ghost use Rattle.dx_instance.specs.Shown.{numbers_of_table};
-ghost use Rattle.dx_joins.specs.Shown.{AreTexts, texts_of};
+ghost use Rattle.dx_joins.specs.Shown.{AllTexts, texts_of};
 ghost use Rattle.dx_cover_fold.specs.Codes.{IsCode};
 
 use dx_instance::{Rows, Symbols};
@@ -45,7 +45,7 @@ impl<'a> Matched<'a> {
     /// The rows of each table, with these symbols.
     pub(crate) fn new(symbols: &'a Symbols, tables: &'a [Rows]) -> Matched<'a>
         requires few { length symbols.now < 2 ^ 32 - 1 }
-        requires texts { Each tables.now (λ t. Each t.rows (AreTexts symbols.now)) }
+        requires texts { Each tables.now (λ t. Each t.rows (AllTexts symbols.now)) }
         ensures symbols { result.symbols ≡ symbols.now }
         ensures tables { result.tables ≡ tables.now }
     {
@@ -60,8 +60,8 @@ impl<'a> Matched<'a> {
         ensures rows { result.now ≡ numbers_of_table self.now.tables rule }
 
         // What holds of all rows.
-        ensures apart { AreDistinctValues self.now.symbols }
-        ensures texts { Each result.now.rows (AreTexts self.now.symbols) }
+        ensures apart { ValuesDiffer self.now.symbols }
+        ensures texts { Each result.now.rows (AllTexts self.now.symbols) }
         ensures wide { Each result.now.rows (λ r. length r ≡ result.now.width) }
     {
         let tables = self.tables;
@@ -83,7 +83,7 @@ impl<'a> Matched<'a> {
     pub(crate) fn row(&self, rule: u32, place: u32) -> &'a [u32]
         requires rule { rule < length self.now.tables }
         requires place { place < length (slice_index_or (matched_tuples self.now) rule []) }
-        ensures texts { AreTexts self.now.symbols result.now }
+        ensures texts { AllTexts self.now.symbols result.now }
         ensures tuple { texts_of self.now.symbols result.now ≡ tuple_at (matched_tuples self.now) rule place }
     {
         self.rows(rule).row(place)

@@ -3,7 +3,7 @@ ghost use Rattle.std.specs.Prelude.{◌≡◌, IfOk};
 ghost use Rattle.dx_model.specs.declared.values.Value.TheVariants.{Null as NullValue};
 ghost use Rattle.dx_model.specs.Rules.{cell_value, text_of};
 ghost use Rattle.dx_instance.specs.Ranks.{text_of_value};
-ghost use Rattle.dx_joins.specs.Shown.{AreTexts, texts_of};
+ghost use Rattle.dx_joins.specs.Shown.{AllTexts, texts_of};
 
 use crate::matched::Matched;
 use dx_base::Text;
@@ -28,7 +28,7 @@ fn text_for(
     row: &[u32],
     variable: u32,
 ) -> Result<Text, AllocError>
-    requires { AreTexts matches.now.symbols row.now }
+    requires { AllTexts matches.now.symbols row.now }
     ensures { IfOk result (λ t. t ≡ text_of variables.now (texts_of matches.now.symbols row.now) variable) }
 {
     for i in 0..variables.len().min(row.len()) {
@@ -49,7 +49,7 @@ pub(crate) fn value_said(
     place: u32,
     cell: &Cell,
 ) -> Result<Value, AllocError>
-    requires { AreTexts matches.now.symbols row.now }
+    requires { AllTexts matches.now.symbols row.now }
     ensures { IfOk result (λ v. v ≡ cell_value (text_of variables.now (texts_of matches.now.symbols row.now))
         (λ x. NullValue (record { rule = rule; var = x; row = place })) cell.now) }
 {

@@ -11,10 +11,10 @@ use Rattle.dx_model.specs.declared.values.Value.{Value}
 use Rattle.dx_model.specs.declared.values.Value.TheVariants.{Const}
 use Rattle.dx_instance.specs.Cells.{rows_of_cells}
 use Rattle.dx_instance.specs.Numbers.{Extends, IsNumberOf, value_of}
-use Rattle.dx_instance.specs.Shown.{AreBelow, shown_row}
+use Rattle.dx_instance.specs.Shown.{NumbersBelow, shown_row}
 use Rattle.dx_instance.proofs.ShownFacts.{grown_value, longer}
 use Rattle.dx_used.proofs.Blanking.{blanked_length}
-use Rattle.dx_csv.specs.Blanks.{AreNumbersOfTexts, AreSettled, HasBlank, OthersStay, constants_used, is_used}
+use Rattle.dx_csv.specs.Blanks.{NumbersOfTexts, ColumnsSettled, HasBlank, OthersStay, constants_used, is_used}
 use Rattle.dx_csv.specs.Fields.{records_in}
 use Rattle.dx_model.specs.Values.{constants}
 use Rattle.dx_csv.proofs.BlankFacts.{unused_in, value_at}
@@ -42,7 +42,7 @@ rows_apart w r s c h k e =
 -- ---- one row more of a column
 
 pub column_more : (S T : List Value) (texts : List (List ℕ)) (w c i n : ℕ) (old new : List ℕ) → c < w → i * w + c < length old → new ≡ set old (i * w + c) n → Extends S T
-    → IsNumberOf T (Const (get_or texts (i * w + c) [])) (Some n) → AreNumbersOfTexts S texts w c old i → AreNumbersOfTexts T texts w c new (i + 1)
+    → IsNumberOf T (Const (get_or texts (i * w + c) [])) (Some n) → NumbersOfTexts S texts w c old i → NumbersOfTexts T texts w c new (i + 1)
 column_more S T texts w c i n old new h b e g x a r k = rw e (elim (cases_lt r i) [
   | inl l ↦ let o = get_or-set_other old (i * w + c) (r * w + c) n 0 (λ q. rows_apart w r i c h l q) in rw o (number_kept S T _ _ g (a r l))
   | inr l ↦ let s : r ≡ i = omega (arith, k, l) in rw (s, get_or-set_same old (i * w + c) n 0 b) x
@@ -53,8 +53,8 @@ others_more w c i n first old new h e o r d k m = rw e (get_or-set_other old (i 
 
 -- ---- one column more
 
-pub settled_used : (used : List Bool) (S T : List Value) (texts : List (List ℕ)) (w count c : ℕ) (old new : List ℕ) → is_used used c ≡ true → Extends S T → AreNumbersOfTexts T texts w c new count → OthersStay w c old new
-    → AreSettled used S texts w count old (c + 1) → AreSettled used T texts w count new c
+pub settled_used : (used : List Bool) (S T : List Value) (texts : List (List ℕ)) (w count c : ℕ) (old new : List ℕ) → is_used used c ≡ true → Extends S T → NumbersOfTexts T texts w c new count → OthersStay w c old new
+    → ColumnsSettled used S texts w count old (c + 1) → ColumnsSettled used T texts w count new c
 settled_used used S T texts w count c old new u g a o s r d hr hd either = elim (cases_eq d c) [
   | inl e ↦ rw (e, u) (a r hr)
   | inr n ↦ rw (o r d hd n) (number_kept S T _ _ g (s r d hr hd (later n either)))
@@ -64,7 +64,7 @@ settled_used used S T texts w count c old new u g a o s r d hr hd either = elim 
     later n (inl l) = inl (omega (arith, n, l))
     later n (inr f) = inr f
 
-pub settled_unused : (used : List Bool) (S : List Value) (texts : List (List ℕ)) (w count c : ℕ) (cells : List ℕ) → is_used used c ≡ false → AreSettled used S texts w count cells (c + 1) → AreSettled used S texts w count cells c
+pub settled_unused : (used : List Bool) (S : List Value) (texts : List (List ℕ)) (w count c : ℕ) (cells : List ℕ) → is_used used c ≡ false → ColumnsSettled used S texts w count cells (c + 1) → ColumnsSettled used S texts w count cells c
 settled_unused used S texts w count c cells f s r d hr hd either = s r d hr hd (later either)
   where
     later : (c ≤ d) ⊎ (is_used used d ≡ false) → (c + 1 ≤ d) ⊎ (is_used used d ≡ false)
@@ -72,7 +72,7 @@ settled_unused used S texts w count c cells f s r d hr hd either = s r d hr hd (
     later (inr g) = inr g
 
 -- at first all cells are blank
-pub settled_none : (used : List Bool) (S : List Value) (texts : List (List ℕ)) (w count many blank : ℕ) (cells : List ℕ) → cells ≡ replicate many blank → many ≡ count * w → HasBlank used S blank → AreSettled used S texts w count cells w
+pub settled_none : (used : List Bool) (S : List Value) (texts : List (List ℕ)) (w count many blank : ℕ) (cells : List ℕ) → cells ≡ replicate many blank → many ≡ count * w → HasBlank used S blank → ColumnsSettled used S texts w count cells w
 settled_none used S texts w count many blank cells e m b r c hr hc either = by either
   where
     within : r * w + c < many
@@ -109,7 +109,7 @@ first_shown used S texts w cells n t l a =
     ∙ ap (λ (x : List ℕ). cond (is_used used i) (Const x) (Const [])) (sym (get_or-take w texts i [] b))
     ∙ sym (value_at used (take w texts) i (Const []) (omega (arith, b, many))))
 
-first_below : (used : List Bool) (S : List Value) (texts : List (List ℕ)) (w : ℕ) (cells : List ℕ) (n : ℕ) → w ≤ length cells → AllNumbered used S texts w cells (suc n) → AreBelow (length S) (take w cells)
+first_below : (used : List Bool) (S : List Value) (texts : List (List ℕ)) (w : ℕ) (cells : List ℕ) (n : ℕ) → w ≤ length cells → AllNumbered used S texts w cells (suc n) → NumbersBelow (length S) (take w cells)
 first_below used S texts w cells n l a x m =
     let at = contains_from_in m in
     let b : at.0 < w = omega (arith, at.1, length-take-le w cells l) in
@@ -136,10 +136,10 @@ rows_shown used S w (suc n) texts cells t l a =
     let rest = rows_shown used S w n (drop w texts) (drop w cells) (omega (arith, t, length-drop w texts)) (omega (arith, l, length-drop w cells)) (rest_numbered used S texts w cells n a) in
     cc (first, rest)
 
-pub rows_below : (used : List Bool) (S : List Value) (w n : ℕ) (texts : List (List ℕ)) (cells : List ℕ) → length cells ≡ n * w → AllNumbered used S texts w cells n → Each (rows_of_cells n w cells) (AreBelow (length S))
+pub rows_below : (used : List Bool) (S : List Value) (w n : ℕ) (texts : List (List ℕ)) (cells : List ℕ) → length cells ≡ n * w → AllNumbered used S texts w cells n → Each (rows_of_cells n w cells) (NumbersBelow (length S))
 rows_below used S w zero texts cells l a r m = elim m [ ]
-rows_below used S w (suc n) texts cells l a r (here e) = subst (AreBelow (length S)) e (first_below used S texts w cells n (omega (arith, l)) a)
+rows_below used S w (suc n) texts cells l a r (here e) = subst (NumbersBelow (length S)) e (first_below used S texts w cells n (omega (arith, l)) a)
 rows_below used S w (suc n) texts cells l a r (there m) = rows_below used S w n (drop w texts) (drop w cells) (omega (arith, l, length-drop w cells)) (rest_numbered used S texts w cells n a) r m
 
-pub all_settled : (used : List Bool) (S : List Value) (texts : List (List ℕ)) (w count c : ℕ) (cells : List ℕ) → c ≡ 0 → AreSettled used S texts w count cells c → AllNumbered used S texts w cells count
+pub all_settled : (used : List Bool) (S : List Value) (texts : List (List ℕ)) (w count c : ℕ) (cells : List ℕ) → c ≡ 0 → ColumnsSettled used S texts w count cells c → AllNumbered used S texts w cells count
 all_settled used S texts w count c cells z s r d hr hd = s r d hr hd (inl (omega (arith, z)))

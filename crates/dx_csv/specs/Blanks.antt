@@ -36,8 +36,8 @@ constant_at used texts width r column =
     cond (is_used used column) (Const (slice_index_or texts (r * width + column) [])) (Const [])
 
 -- the cells of a column in the first n records have the numbers of their texts' constants
-abbrev pub AreNumbersOfTexts : List Value → List (List ℕ) → ℕ → ℕ → List ℕ → ℕ → Type 0
-AreNumbersOfTexts symbols texts width column cells n =
+abbrev pub NumbersOfTexts : List Value → List (List ℕ) → ℕ → ℕ → List ℕ → ℕ → Type 0
+NumbersOfTexts symbols texts width column cells n =
     (r : ℕ) → r < n → IsNumberOf symbols (Const (slice_index_or texts (r * width + column) []))
     (Some (slice_index cells (r * width + column)))
 
@@ -47,7 +47,7 @@ OthersStay width column old new =
     (r d : ℕ) → d < width → ¬ (d ≡ column) → slice_index new (r * width + d) ≡ slice_index old (r * width + d)
 
 -- the cells of all columns that are not used, and of those from this one on, have the numbers of their constants
-abbrev pub AreSettled : List Bool → List Value → List (List ℕ) → ℕ → ℕ → List ℕ → ℕ → Type 0
-AreSettled used symbols texts width count cells column =
+abbrev pub ColumnsSettled : List Bool → List Value → List (List ℕ) → ℕ → ℕ → List ℕ → ℕ → Type 0
+ColumnsSettled used symbols texts width count cells column =
     (r c : ℕ) → r < count → c < width → (column ≤ c) ⊎ (is_used used c ≡ false)
     → IsNumberOf symbols (constant_at used texts width r c) (Some (slice_index cells (r * width + c)))

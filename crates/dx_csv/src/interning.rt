@@ -3,8 +3,8 @@ ghost use Rattle.std.specs.Prelude.{◌≡◌, ◌*◌, ◌+◌, ◌<◌, ◌^�
 ghost use Rattle.dx_base.specs.Members.{Each};
 ghost use Rattle.dx_model.specs.declared.values.Value.TheVariants.{Const};
 ghost use Rattle.dx_instance.specs.Numbers.{Extends, value_of};
-ghost use Rattle.dx_instance.specs.Shown.{AreBelow, shown_row};
-ghost use Rattle.dx_csv.specs.Blanks.{AreNumbersOfTexts, AreSettled, HasBlank, IsTableUsed, OthersStay, constants_used, is_used};
+ghost use Rattle.dx_instance.specs.Shown.{NumbersBelow, shown_row};
+ghost use Rattle.dx_csv.specs.Blanks.{NumbersOfTexts, ColumnsSettled, HasBlank, IsTableUsed, OthersStay, constants_used, is_used};
 ghost use Rattle.dx_csv.specs.Fields.{records_in};
 ghost use Rattle.dx_csv.specs.Table.{HasTableFault, table_records};
 
@@ -73,7 +73,7 @@ impl<'a> Grid<'a> {
         requires cells { length cells.old.items ≡ self.now.count * self.now.width }
         ensures size { length cells.new.items ≡ length cells.old.items }
         ensures numbered { OnOk result
-            (AreNumbersOfTexts symbols.new self.now.texts.now self.now.width column cells.new.items self.now.count) }
+            (NumbersOfTexts symbols.new self.now.texts.now self.now.width column cells.new.items self.now.count) }
         ensures others { OnOk result (OthersStay self.now.width column cells.old.items cells.new.items) }
         ensures grows { Extends symbols.old symbols.new }
     {
@@ -100,10 +100,10 @@ impl<'a> Grid<'a> {
     ) -> Result<(), AllocError>
         requires column { column < self.now.width }
         requires cells { length cells.old.items ≡ self.now.count * self.now.width }
-        requires settled { AreSettled used.now symbols.old self.now.texts.now self.now.width self.now.count cells.old.items (column + 1) }
+        requires settled { ColumnsSettled used.now symbols.old self.now.texts.now self.now.width self.now.count cells.old.items (column + 1) }
         ensures size { length cells.new.items ≡ length cells.old.items }
         ensures settled { OnOk result
-            (AreSettled used.now symbols.new self.now.texts.now self.now.width self.now.count cells.new.items column) }
+            (ColumnsSettled used.now symbols.new self.now.texts.now self.now.width self.now.count cells.new.items column) }
         ensures grows { Extends symbols.old symbols.new }
     {
         if !is_used(used, column) {
@@ -117,7 +117,7 @@ impl<'a> Grid<'a> {
     fn rows(&self, alloc: Global, used: &[bool], symbols: &mut Gathered) -> Result<Rows, AllocError>
         ensures shown { IfOk result (λ rows. map (shown_row symbols.new) rows.rows ≡ map (constants_used used.now)
             (records_in self.now.count self.now.width self.now.texts.now)) }
-        ensures below { IfOk result (λ rows. Each rows.rows (AreBelow (length symbols.new))) }
+        ensures below { IfOk result (λ rows. Each rows.rows (NumbersBelow (length symbols.new))) }
         ensures width { IfOk result (λ rows. rows.width ≡ self.now.width) }
         ensures grows { Extends symbols.old symbols.new }
     {
@@ -152,7 +152,7 @@ pub fn load_into(
     ensures rows { IfOk result (λ rows. IsTableUsed used.now (table_records bytes.now) columns.now
         (map (shown_row symbols.new) rows.rows)) }
     ensures width { IfOk result (λ rows. rows.width ≡ length columns.now) }
-    ensures below { IfOk result (λ rows. Each rows.rows (AreBelow (length symbols.new))) }
+    ensures below { IfOk result (λ rows. Each rows.rows (NumbersBelow (length symbols.new))) }
     ensures fault { IfErr result (HasTableFault (table_records bytes.now) columns.now) }
     ensures grows { Extends symbols.old symbols.new }
 {

@@ -1,7 +1,7 @@
 // The text of records and of tables.
 ghost use Rattle.std.specs.Prelude.{◌≡◌, ◌<◌, ◌++◌, ◌∷◌, [], ℕ, List, IfOk, IsUtf8, OnOk, length, map};
 ghost use Rattle.csv.specs.Records.{AllText};
-ghost use Rattle.dx_instance.specs.Shown.{AreBelow, shown_row};
+ghost use Rattle.dx_instance.specs.Shown.{NumbersBelow, shown_row};
 ghost use Rattle.dx_instance.specs.Stored.{rows_of, table_at};
 ghost use Rattle.dx_instance.specs.ValueText.{value_text_of};
 ghost use Rattle.dx_csv.specs.Lines.{HavePrinted};
@@ -29,7 +29,7 @@ fn print_record(lines: &mut Lines, fields: &[Text]) -> Result<(), AllocError>
 
 // Prints a row of numbers as one record more, the texts of the values under them.
 fn print_row(lines: &mut Lines, numbers: &Numbers, row: &[u32]) -> Result<(), AllocError>
-    requires { AreBelow (length numbers.now.symbols) row.now }
+    requires { NumbersBelow (length numbers.now.symbols) row.now }
     ensures printed { (records : List (List (List ℕ))) → HavePrinted lines.old records []
         → OnOk result (HavePrinted lines.new (records ++ map value_text_of (shown_row numbers.now.symbols row.now) ∷ []) []) }
     ensures texts { OnOk result (AllText (map value_text_of (shown_row numbers.now.symbols row.now))) }

@@ -16,10 +16,10 @@ use Rattle.dx_model.specs.Values.{Tuple, Rows}
 use Rattle.dx_base.specs.Texts.{Text}
 use Rattle.dx_instance.specs.Cells.{NumberTable, numbers_at}
 use Rattle.dx_instance.specs.Numbers.{Extends, value_of}
-use Rattle.dx_instance.specs.Shown.{AreBelow, shown_row}
+use Rattle.dx_instance.specs.Shown.{NumbersBelow, shown_row}
 use Rattle.dx_instance.specs.Stored.{IsSorting, TableRows, facts, table_at, widths}
 use Rattle.dx_instance.proofs.StoredFacts.{fact_from_row, row_from_fact}
-use Rattle.dx_joins.specs.Shown.{AreTexts, texts_of}
+use Rattle.dx_joins.specs.Shown.{AllTexts, texts_of}
 use Rattle.dx_schema.specs.Forest.{Forest}
 use Rattle.dx_schema.specs.Names.{TableNames, table_names_of, names_of_table}
 use Rattle.dx_schema.specs.Tables.{TableOf, schema_widths, tables_of}
@@ -48,19 +48,19 @@ use Rattle.dx_eval.proofs.Partners.{column_is, constant_is}
 -- ---- numbers
 
 -- the number in a column stands for the text there
-pub column_stands : (S : List Value) (row : List ℕ) (c n : ℕ) → AreTexts S row → c < length row → n ≡ slice_index row c → StandsAs S n (Const (in_column (texts_of S row) c))
+pub column_stands : (S : List Value) (row : List ℕ) (c n : ℕ) → AllTexts S row → c < length row → n ≡ slice_index row c → StandsAs S n (Const (in_column (texts_of S row) c))
 column_stands S row c n t h e =
     let k = t (slice_index row c) (in_at row c 0 h) in
     let v = (constant_is (value_of S (slice_index row c)) (in_column (texts_of S row) c) k.1).1 (sym (column_is S row c h)) in
     rw e (record { within = k.0; value = v })
 
-pub all_texts_there : (S T : List Value) (rows : List (List ℕ)) → Extends S T → Each rows (AreTexts S) → Each rows (AreTexts T)
+pub all_texts_there : (S T : List Value) (rows : List (List ℕ)) → Extends S T → Each rows (AllTexts S) → Each rows (AllTexts T)
 all_texts_there S T rows e t r m = texts_grow S T r e (t r m)
 
 -- one number more in the buffer
-pub filled_more : (S T U : List Value) (row buffer new : List ℕ) (r k : ℕ) (cells : List Out) (i n : ℕ) (out : Out) → i < length cells → out ≡ get_or cells i out → Extends S T → Extends T U → AreTexts S row
-    → AreBelow (length T) buffer → shown_row T buffer ≡ map (inserted r k (texts_of S row)) (take i cells) → StandsAs U n (inserted r k (texts_of T row) out) → new ≡ buffer ++ n ∷ []
-    → AreBelow (length U) new × (shown_row U new ≡ map (inserted r k (texts_of S row)) (take (i + 1) cells))
+pub filled_more : (S T U : List Value) (row buffer new : List ℕ) (r k : ℕ) (cells : List Out) (i n : ℕ) (out : Out) → i < length cells → out ≡ get_or cells i out → Extends S T → Extends T U → AllTexts S row
+    → NumbersBelow (length T) buffer → shown_row T buffer ≡ map (inserted r k (texts_of S row)) (take i cells) → StandsAs U n (inserted r k (texts_of T row) out) → new ≡ buffer ++ n ∷ []
+    → NumbersBelow (length U) new × (shown_row U new ≡ map (inserted r k (texts_of S row)) (take (i + 1) cells))
 filled_more S T U row buffer new r k cells i n out h is st tu texts below shown stands e =
     let all : take (i + 1) cells ≡ take i cells ++ out ∷ [] = take_more cells i out h ∙ ap (λ z. take i cells ++ z ∷ []) (sym is) in
     let same : texts_of T row ≡ texts_of S row = texts_stay S T row st texts in
@@ -184,7 +184,7 @@ literal_in r k t out text copy e c = ap Const c ∙ ap (inserted r k t) (sym e)
 pub null_in : (r k v : ℕ) (t : Tuple) (out : Out) → out ≡ Skolem v → Null (record { rule = r; var = v; row = k }) ≡ inserted r k t out
 null_in r k v t out e = ap (inserted r k t) (sym e)
 
-pub column_number_stands : (S : List Value) (row : List ℕ) (r k c : ℕ) (out : Out) → out ≡ Column c → OutStands (length row) out → AreTexts S row → StandsAs S (slice_index row c) (inserted r k (texts_of S row) out)
+pub column_number_stands : (S : List Value) (row : List ℕ) (r k c : ℕ) (out : Out) → out ≡ Column c → OutStands (length row) out → AllTexts S row → StandsAs S (slice_index row c) (inserted r k (texts_of S row) out)
 column_number_stands S row r k c out e s t =
     let p = column_in (length row) r k c (texts_of S row) out e s in
     subst (StandsAs S (slice_index row c)) p.1 (column_stands S row c (slice_index row c) t p.0 refl)
@@ -196,10 +196,10 @@ stands_is (Err x) S v w e a b = tt
 -- ---- a row at a place
 
 pub gains_at : {I J K : List TableRows} (S T U : List Value) (rows : List (List ℕ)) (row numbers : List ℕ) (table r k i : ℕ) (places : List ℕ) (cells : List Out)
-    → i < length places → k ≡ get_or places i k → k < length rows → row ≡ numbers_at rows k → Extends S T → Each rows (AreTexts S) → shown_row U numbers ≡ map (inserted r k (texts_of T row)) cells
+    → i < length places → k ≡ get_or places i k → k < length rows → row ≡ numbers_at rows k → Extends S T → Each rows (AllTexts S) → shown_row U numbers ≡ map (inserted r k (texts_of T row)) cells
     → GainsFacts I J (map (placed_fact table r (map (texts_of S) rows) cells) (take i places)) → GainsFacts J K (record { table = table; row = shown_row U numbers } ∷ []) → GainsFacts I K (map (placed_fact table r (map (texts_of S) rows) cells) (take (i + 1) places))
 gains_at {I} {J} {K} S T U rows row numbers table r k i places cells h ke low is grows texts shown old new =
-    let mine : AreTexts S row = row_there S rows k row texts low is in
+    let mine : AllTexts S row = row_there S rows k row texts low is in
     let tuple : texts_of T row ≡ slice_index_or (map (texts_of S) rows) k [] = texts_stay S T row grows mine ∙ (ap (texts_of S) is ∙ sym (get_or-map (texts_of S) rows k [] [] low)) in
     let values : shown_row U numbers ≡ map (inserted r k (slice_index_or (map (texts_of S) rows) k [])) cells = shown ∙ ap (λ (t : Tuple). map (inserted r k t) cells) tuple in
     gains_next (placed_fact table r (map (texts_of S) rows) cells) places i k h ke old (subst (λ (vs : List Value). GainsFacts J K (record { table = table; row = vs } ∷ [])) values new)
@@ -219,7 +219,7 @@ wide_as I J t w h = ap (λ (z : List ℕ). slice_index z t) (sym w) ∙ get_or-m
 -- ---- a step of a rule
 
 pub gains_insert : {I J K : List TableRows} (target : List TableNames) (steps : List Step) (i : ℕ) (s : Step) (name : Text) (table r : ℕ) (kept : Bool) (cells : List Out) (S T : List Value) (rows : List (List ℕ)) (places : List ℕ)
-    → i < length steps → s ≡ get_or steps i s → s ≡ InsertRows name r kept cells → table ≡ table_named target name → Extends S T → Each rows (AreTexts S)
+    → i < length steps → s ≡ get_or steps i s → s ≡ InsertRows name r kept cells → table ≡ table_named target name → Extends S T → Each rows (AllTexts S)
     → GainsFacts I J (facts_by target (take i steps) r (map (texts_of S) rows) places) → GainsFacts J K (map (placed_fact table r (map (texts_of T) rows) cells) places)
     → GainsFacts I K (facts_by target (take (i + 1) steps) r (map (texts_of S) rows) places)
 gains_insert {I} {J} {K} target steps i s name table r kept cells S T rows places h is variant te grows texts old new =
@@ -256,14 +256,14 @@ wide_columns f t h =
 
 -- ---- all rules
 
-pub tuples_all_grown : (S T : List Value) (ts : List NumberTable) → Extends S T → Each ts (λ (t : NumberTable). Each t.rows (AreTexts S)) → tuples_in T ts ≡ tuples_in S ts
+pub tuples_all_grown : (S T : List Value) (ts : List NumberTable) → Extends S T → Each ts (λ (t : NumberTable). Each t.rows (AllTexts S)) → tuples_in T ts ≡ tuples_in S ts
 tuples_all_grown S T [] e f = refl
 tuples_all_grown S T (t ∷ ts) e f =
     let first = tuples_grown S T t.rows e (f t (here refl)) in
     let rest = tuples_all_grown S T ts e (λ u m. f u (there m)) in
     cc (first, rest)
 
-pub all_there : (S T : List Value) (ts : List NumberTable) → Extends S T → Each ts (λ (t : NumberTable). Each t.rows (AreTexts S)) → Each ts (λ (t : NumberTable). Each t.rows (AreTexts T))
+pub all_there : (S T : List Value) (ts : List NumberTable) → Extends S T → Each ts (λ (t : NumberTable). Each t.rows (AllTexts S)) → Each ts (λ (t : NumberTable). Each t.rows (AllTexts T))
 all_there S T ts e f t m = all_texts_there S T t.rows e (f t m)
 
 pub tuples_of_rule : (S : List Value) (ts : List NumberTable) (r : ℕ) (t : NumberTable) → r < length ts → t ≡ get_or ts r t → match_table (tuples_in S ts) r ≡ map (texts_of S) t.rows
@@ -278,7 +278,7 @@ places_low S ts steps r t places h is stay k m =
 -- one rule more, whose tuples are read when the symbols have grown
 pub rule_more_grown : (target : List TableNames) (steps : List Step) (S T : List Value) (ts : List NumberTable) (r : ℕ) (t : NumberTable) (places : List ℕ) (J K : List TableRows)
     → ((table : Text) (q : ℕ) (kept : Bool) (cells : List Out) (unless : List Unless) → InsertRows table q kept cells ∈ steps → KeepRows q unless ∈ steps → IsTrue kept)
-    → Extends S T → Each ts (λ (u : NumberTable). Each u.rows (AreTexts S)) → r < length ts → t ≡ get_or ts r t → Stay steps (tuples_in T ts) r places
+    → Extends S T → Each ts (λ (u : NumberTable). Each u.rows (AllTexts S)) → r < length ts → t ≡ get_or ts r t → Stay steps (tuples_in T ts) r places
     → GainsFacts J K (facts_by target steps r (map (texts_of T) t.rows) places) → ((f : Fact) → (f ∈ facts J) ↔ IsInsertedBelow target steps (tuples_in S ts) r f)
     → (f : Fact) → (f ∈ facts K) ↔ IsInsertedBelow target steps (tuples_in S ts) (r + 1) f
 rule_more_grown target steps S T ts r t places J K reads grows texts h is stay gained old =

@@ -15,7 +15,7 @@ use Rattle.dx_script.specs.declared.form.Equal.{Equal}
 use Rattle.dx_script.specs.Fits.{CellFits}
 use Rattle.dx_script.specs.Names.{column_named, table_named}
 use Rattle.dx_script.specs.Meaning.{table_of_alias}
-use Rattle.dx_eval.specs.Variables.{EqualCellsAgree, AreSeparate, AreVariables, AreWide, HasVariable, AliasHasCell, IsUnified, Meet, cell_count, renamed, alias_variables, alias_variable, variable_of, width_named}
+use Rattle.dx_eval.specs.Variables.{EqualCellsAgree, SeparateVariables, AreVariables, WideAliases, HasVariable, AliasHasCell, IsUnified, Meet, cell_count, renamed, alias_variables, alias_variable, variable_of, width_named}
 use Rattle.dx_eval.proofs.NumberOfNames.{column_within}
 use Rattle.dx_eval.proofs.Sums.{total, total_more, total_same}
 
@@ -68,7 +68,7 @@ module _ (vars : List (List ℕ)) (row : List ℕ) where
 
 -- ---- each cell its own variable
 
-pub separate_start : (source : List TableNames) → AreSeparate source [] [] 0
+pub separate_start : (source : List TableNames) → SeparateVariables source [] [] 0
 separate_start source = record {
   shape = record { many = refl; wide = λ a h. absurd (omega arith) };
   below_n = λ a c h. absurd (let r = h.row in omega arith);
@@ -77,7 +77,7 @@ separate_start source = record {
   count = refl;
 }
 
-wide_more : (source : List TableNames) (names : List Text) (vars : List (List ℕ)) (name : Text) (row : List ℕ) → AreWide source names vars → length row ≡ width_named source name → AreWide source (names ++ name ∷ []) (vars ++ row ∷ [])
+wide_more : (source : List TableNames) (names : List Text) (vars : List (List ℕ)) (name : Text) (row : List ℕ) → WideAliases source names vars → length row ≡ width_named source name → WideAliases source (names ++ name ∷ []) (vars ++ row ∷ [])
 wide_more source names vars name row s w = record {
   many = let m = s.many in omega (arith, m, length-append vars (row ∷ []), length-append names (name ∷ []));
   wide = λ a h. at a h (cases_lt a (length vars));
@@ -94,8 +94,8 @@ wide_more source names vars name row s w = record {
         let p : length names ≡ a = omega (arith, q, m) in
         rw (get_or_push vars row [] a q, get_or_push names name [] a p) w
 
-pub separate_more : (source : List TableNames) (names : List Text) (vars : List (List ℕ)) (n w : ℕ) (name : Text) → AreSeparate source names vars n → w ≡ width_named source name
-    → AreSeparate source (names ++ name ∷ []) (vars ++ range_with_len n w ∷ []) (n + w)
+pub separate_more : (source : List TableNames) (names : List Text) (vars : List (List ℕ)) (n w : ℕ) (name : Text) → SeparateVariables source names vars n → w ≡ width_named source name
+    → SeparateVariables source (names ++ name ∷ []) (vars ++ range_with_len n w ∷ []) (n + w)
 separate_more source names vars n w name s e = record {
   shape = wide_more source names vars name (range_with_len n w) s.shape (length-range_with_len n w ∙ e);
   below_n = λ a c h. low a c (cell_where vars (range_with_len n w) a c h);
@@ -163,7 +163,7 @@ separate_more source names vars n w name s e = record {
         let q = s.count in
         a ∙ (b ∙ omega (arith, c, d, q))
 
-pub separate_variables : (source : List TableNames) (sources : List Text) (vars : List (List ℕ)) (n : ℕ) → n < 2 ^ 32 → AreSeparate source sources vars n → AreVariables source sources [] vars n
+pub separate_variables : (source : List TableNames) (sources : List Text) (vars : List (List ℕ)) (n : ℕ) → n < 2 ^ 32 → SeparateVariables source sources vars n → AreVariables source sources [] vars n
 separate_variables source sources vars n small s = record {
   shape = s.shape;
   below_n = s.below_n;
@@ -314,7 +314,7 @@ joined_already x y n old e = record {
 
 -- ---- one equation more
 
-module _ (source : List TableNames) (sources : List Text) (vars : List (List ℕ)) (s : AreWide source sources vars) where
+module _ (source : List TableNames) (sources : List Text) (vars : List (List ℕ)) (s : WideAliases source sources vars) where
   pub fits_cell : (c : CellRef) → CellFits source sources c → AliasHasCell vars c.alias (column_named source (table_of_alias source sources c.alias) c.column)
   fits_cell c f =
       let w = s.wide c.alias f.alias in
@@ -385,12 +385,12 @@ joined_variables source sources equal e old new n m fit v j = record {
 -- ---- in loops
 
 pub separate_step : (source : List TableNames) (sources : List Text) (i : ℕ) (name : Text) (vars new : List (List ℕ)) (row : List ℕ) (n w : ℕ) → i < length sources → name ≡ get_or sources i name
-    → AreSeparate source (take i sources) vars n → w ≡ width_named source name → row ≡ range_with_len n w → new ≡ vars ++ row ∷ [] → AreSeparate source (take (i + 1) sources) new (n + w)
+    → SeparateVariables source (take i sources) vars n → w ≡ width_named source name → row ≡ range_with_len n w → new ≡ vars ++ row ∷ [] → SeparateVariables source (take (i + 1) sources) new (n + w)
 separate_step source sources i name vars new row n w h e s k r a =
     let all : take (i + 1) sources ≡ take i sources ++ name ∷ [] = take_more sources i name h ∙ ap (λ z. take i sources ++ z ∷ []) (sym e) in
     rw (all, a, r) (separate_more source (take i sources) vars n w name s k)
 
-pub separate_all : (source : List TableNames) (sources : List Text) (i : ℕ) (vars : List (List ℕ)) (n : ℕ) → length sources ≤ i → AreSeparate source (take i sources) vars n → AreSeparate source sources vars n
+pub separate_all : (source : List TableNames) (sources : List Text) (i : ℕ) (vars : List (List ℕ)) (n : ℕ) → length sources ≤ i → SeparateVariables source (take i sources) vars n → SeparateVariables source sources vars n
 separate_all source sources i vars n h s = rw (← take_all i sources h) s
 
 pub variables_step : (source : List TableNames) (sources : List Text) (equal : List Equal) (i : ℕ) (e : Equal) (old new : List (List ℕ)) (n m x y : ℕ) → Each equal (λ (q : Equal). CellFits source sources q.left × CellFits source sources q.right)
@@ -411,7 +411,7 @@ pub variable_low : (source : List TableNames) (sources : List Text) (equal : Lis
 variable_low source sources equal vars n x c v f e = rw e (v.below_n c.alias _ (fits_cell source sources vars v.shape c f))
 
 -- a cell that fits has its column
-pub cell_bound : (source : List TableNames) (sources : List Text) (rows : List (List ℕ)) (cell : CellRef) (name : Text) (row : List ℕ) (column : ℕ) → AreWide source sources rows → CellFits source sources cell
+pub cell_bound : (source : List TableNames) (sources : List Text) (rows : List (List ℕ)) (cell : CellRef) (name : Text) (row : List ℕ) (column : ℕ) → WideAliases source sources rows → CellFits source sources cell
     → name ≡ get_or sources cell.alias name → row ≡ get_or rows cell.alias row → column ≡ column_named source (table_named source name) cell.column → column < length row
 cell_bound source sources rows cell name row column s f n r e =
     let k = fits_cell source sources rows s cell f in

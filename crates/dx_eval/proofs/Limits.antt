@@ -15,7 +15,7 @@ use Rattle.dx_model.specs.declared.values.Value.{Value}
 use Rattle.dx_model.specs.Values.{Tuple, Rows}
 use Rattle.dx_base.specs.Texts.{Text}
 use Rattle.dx_instance.specs.Cells.{NumberTable}
-use Rattle.dx_instance.specs.Numbers.{AreDistinctValues, Extends}
+use Rattle.dx_instance.specs.Numbers.{ValuesDiffer, Extends}
 use Rattle.dx_instance.proofs.ShownFacts.{extends_both}
 use Rattle.dx_instance.proofs.SortFacts.{distinct_numbers}
 use Rattle.dx_joins.specs.Shown.{MoreTuples, StandFor, texts_of}
@@ -36,7 +36,7 @@ use Rattle.dx_eval.specs.declared.fault.EvalFault.{EvalFault}
 use Rattle.dx_eval.specs.declared.fault.EvalFault.TheVariants.{Limit}
 use Rattle.dx_eval.specs.Evaluating.{ScriptPassesLimit, cells_for, script_cells}
 use Rattle.dx_eval.specs.Query.{IsSelected}
-use Rattle.dx_eval.specs.Finding.{AreFoundSteps, FoundSoFar, IsFoundUpTo, IsEvalRefusal, IsFoundStep, MatchStep, MatchesFit, MatchingFits, matching_in, matchings}
+use Rattle.dx_eval.specs.Finding.{AllStepsFound, FoundSoFar, IsFoundUpTo, IsEvalRefusal, IsFoundStep, MatchStep, MatchesFit, MatchingFits, matching_in, matchings}
 use Rattle.dx_eval.proofs.Sums.{total, total_less, total_longer, total_more, total_same}
 use Rattle.dx_eval.proofs.Tables.{matching_long, IsTable, are_tables, found_grown, of_step, stands_at, tables_exist, no_matching}
 
@@ -75,7 +75,7 @@ tuples_at S ts k h = get_or-map (λ (t : NumberTable). map (texts_of S) t.rows) 
 
 -- ---- in another order
 
-pub reordered_cells : (steps : List Step) (S T : List Value) (ts us : List NumberTable) → AreDistinctValues T → AllZip (IsRenumbering S T) ts us → script_cells steps (tuples_in T us) ≤ script_cells steps (tuples_in S ts)
+pub reordered_cells : (steps : List Step) (S T : List Value) (ts us : List NumberTable) → ValuesDiffer T → AllZip (IsRenumbering S T) ts us → script_cells steps (tuples_in T us) ≤ script_cells steps (tuples_in S ts)
 reordered_cells steps S T ts us p z =
     let l = zip_long (IsRenumbering S T) ts us z in
     let a = tuples_long T us in
@@ -91,7 +91,7 @@ reordered_cells steps S T ts us p z =
 -- ---- step by step
 
 module _ (source : List TableNames) (call : Text → Tuple → Text) (I : List Fact) (steps : List Step) where
-  grown_tuples : (S T : List Value) (ms : List MatchStep) (ts : List NumberTable) → Extends S T → AreFoundSteps source call I S ms ts → tuples_in T ts ≡ tuples_in S ts
+  grown_tuples : (S T : List Value) (ms : List MatchStep) (ts : List NumberTable) → Extends S T → AllStepsFound source call I S ms ts → tuples_in T ts ≡ tuples_in S ts
   grown_tuples S T [] [] e f = refl
   grown_tuples S T [] (t ∷ ts) e f = absurd f
   grown_tuples S T (m ∷ ms) [] e f = absurd f
@@ -100,7 +100,7 @@ module _ (source : List TableNames) (call : Text → Tuple → Text) (I : List F
       let rest = grown_tuples S T ms ts e f.1 in
       cc (first, rest)
 
-  pub start : (old S : List Value) (ts : List NumberTable) (limit : ℕ) → S ≡ old → ts ≡ [] → AreDistinctValues old → FoundSoFar source call I steps old S [] ts limit limit
+  pub start : (old S : List Value) (ts : List NumberTable) (limit : ℕ) → S ≡ old → ts ≡ [] → ValuesDiffer old → FoundSoFar source call I steps old S [] ts limit limit
   start old S ts limit e f p = rw (e, f) (record { found = tt; grows = record { more = []; is = sym (append-nil old) }; apart = p; cells = omega arith })
 
   -- a step that makes no match table
@@ -120,7 +120,7 @@ module _ (source : List TableNames) (call : Text → Tuple → Text) (I : List F
   -- a match step more
   pub match_step : (old S U : List Value) (ts us : List NumberTable) (limit left i r : ℕ) (select : List Select) (sources : List Text) (equal : List Equal) (s : Step) (t : NumberTable)
       → i < length steps → s ≡ get_or steps i s → s ≡ MatchRows r select sources equal → length ts ≡ r
-      → FoundSoFar source call I steps old S (matchings (take i steps)) ts limit left → Extends S U → AreDistinctValues U
+      → FoundSoFar source call I steps old S (matchings (take i steps)) ts limit left → Extends S U → ValuesDiffer U
       → StandFor (length select) (IsSelected source call I select sources equal) U t → us ≡ ts ++ t ∷ [] → length t.rows * cells_for steps r ≤ left
       → FoundSoFar source call I steps old U (matchings (take (i + 1) steps)) us limit (left - length t.rows * cells_for steps r)
   match_step old S U ts us limit left i r select sources equal s t h is variant number f grown p stand more few =
@@ -196,8 +196,8 @@ module _ (source : List TableNames) (call : Text → Tuple → Text) (I : List F
 
   -- all steps
   pub all_found : (old S : List Value) (ts : List NumberTable) (limit left i : ℕ) → length steps ≤ i → FoundSoFar source call I steps old S (matchings (take i steps)) ts limit left
-      → AreFoundSteps source call I S (matchings steps) ts
-  all_found old S ts limit left i h f = subst (λ (z : List Step). AreFoundSteps source call I S (matchings z) ts) (take_all i steps h) f.found
+      → AllStepsFound source call I S (matchings steps) ts
+  all_found old S ts limit left i h f = subst (λ (z : List Step). AllStepsFound source call I S (matchings z) ts) (take_all i steps h) f.found
 
 -- ---- room
 
@@ -215,7 +215,7 @@ pub record TooMany (room : ℕ) (P : Tuple → Type 0) : Type 0 where
   pub more : room < length tuples
   pub few : length tuples < 2 ^ 32
 
-pub too_many : (found : Option NumberTable) (room w : ℕ) (P : Tuple → Type 0) (U : List Value) → AreDistinctValues U → MatchOption found (MoreTuples room P) (StandFor w P U)
+pub too_many : (found : Option NumberTable) (room w : ℕ) (P : Tuple → Type 0) (U : List Value) → ValuesDiffer U → MatchOption found (MoreTuples room P) (StandFor w P U)
     → MatchOption found (Unit {0}) (λ t. (room < length t.rows) × (length t.rows < 2 ^ 32)) → TooMany room P
 too_many None room w P U apart m q = record { tuples = m.tuples; distinct = m.distinct; each = m.each; more = m.more; few = m.few }
 too_many (Some t) room w P U apart m q =

@@ -11,9 +11,9 @@ use Rattle.dx_model.specs.declared.values.Value.TheVariants.{Const, Null}
 use Rattle.dx_model.specs.Values.{Tuple}
 use Rattle.dx_base.specs.Texts.{Text}
 use Rattle.dx_instance.specs.Cells.{NumberTable, numbers_at}
-use Rattle.dx_instance.specs.Numbers.{AreDistinctValues, value_of}
+use Rattle.dx_instance.specs.Numbers.{ValuesDiffer, value_of}
 use Rattle.dx_instance.specs.Shown.{numbers_of_table}
-use Rattle.dx_joins.specs.Shown.{AreTexts, is_text, texts_of}
+use Rattle.dx_joins.specs.Shown.{AllTexts, is_text, texts_of}
 use Rattle.dx_instance.specs.Ranks.{text_of_value}
 use Rattle.dx_joins.proofs.Translating.{texts_same}
 use Rattle.dx_script.specs.declared.form.Test.{Test}
@@ -37,12 +37,12 @@ each_cons P x xs p h y (there m) = h y m
 pub column_is : (S : List Value) (row : List ℕ) (c : ℕ) → c < length row → in_column (texts_of S row) c ≡ text_of_value (value_of S (slice_index row c))
 column_is S row c h = get_or-map (λ n. text_of_value (value_of S n)) row c 0 [] h
 
-number_texts : (S : List Value) (row : List ℕ) (c : ℕ) → AreTexts S row → c < length row → AreTexts S (slice_index row c ∷ [])
+number_texts : (S : List Value) (row : List ℕ) (c : ℕ) → AllTexts S row → c < length row → AllTexts S (slice_index row c ∷ [])
 number_texts S row c t h n (here e) = subst (λ x. (x < length S) × (is_text (value_of S x) ≡ true)) e (t (slice_index row c) (in_at row c 0 h))
 number_texts S row c t h n (there m) = elim m [ ]
 
 -- one text, one number
-one_number : (S : List Value) (a b : List ℕ) (c d : ℕ) → AreDistinctValues S → AreTexts S a → AreTexts S b → c < length a → d < length b → in_column (texts_of S a) c ≡ in_column (texts_of S b) d → slice_index a c ≡ slice_index b d
+one_number : (S : List Value) (a b : List ℕ) (c d : ℕ) → ValuesDiffer S → AllTexts S a → AllTexts S b → c < length a → d < length b → in_column (texts_of S a) c ≡ in_column (texts_of S b) d → slice_index a c ≡ slice_index b d
 one_number S a b c d apart s t h k e =
     let x : texts_of S (slice_index a c ∷ []) ≡ texts_of S (slice_index b d ∷ []) = ap (λ z. z ∷ []) (sym (column_is S a c h) ∙ (e ∙ column_is S b d k)) in
     let y = texts_same S (slice_index a c ∷ []) (slice_index b d ∷ []) apart (number_texts S a c s h) (number_texts S b d t k) x in
@@ -58,7 +58,7 @@ constant_is (Null n) text e = absurd (cc e)
 
 -- ---- tests
 
-module _ (S : List Value) (own other : List ℕ) (apart : AreDistinctValues S) (mine : AreTexts S own) (theirs : AreTexts S other) where
+module _ (S : List Value) (own other : List ℕ) (apart : ValuesDiffer S) (mine : AllTexts S own) (theirs : AllTexts S other) where
   -- all tests hold: those of the tuple's own columns, and the compared columns have one key
   meets_to : (tests : List Test) → Each tests (TestStands (length own) (length other)) → Each tests (MakesTrue (texts_of S own) (texts_of S other))
       → Each tests (HoldsAlone (texts_of S own)) × (column_numbers (own_columns tests) own ≡ column_numbers (other_columns tests) other)
@@ -85,7 +85,7 @@ module _ (S : List Value) (own other : List ℕ) (apart : AreDistinctValues S) (
       each_cons (MakesTrue (texts_of S own) (texts_of S other)) (Literal d text) tests (h (Literal d text) (here refl)) (meets_from tests (λ t m. f t (there m)) (λ t m. h t (there m)) e)
 
 -- a tuple has a partner exactly if its own tests hold and its key is there
-pub partnered_is : (S : List Value) (own : List ℕ) (others keys : List (List ℕ)) (tests : List Test) (w : ℕ) → AreDistinctValues S → AreTexts S own → Each others (AreTexts S) → Each others (λ r. length r ≡ w)
+pub partnered_is : (S : List Value) (own : List ℕ) (others keys : List (List ℕ)) (tests : List Test) (w : ℕ) → ValuesDiffer S → AllTexts S own → Each others (AllTexts S) → Each others (λ r. length r ≡ w)
     → Each tests (TestStands (length own) w) → AreKeys (other_columns tests) others keys
     → IsPartnered (map (texts_of S) others) tests (texts_of S own) ↔ (Each tests (HoldsAlone (texts_of S own)) × (column_numbers (own_columns tests) own ∈ keys))
 partnered_is S own others keys tests w apart mine theirs wide stand k = (
@@ -239,7 +239,7 @@ null_is_not v n text e = ((λ t. absurd (false≢true t)), (λ q. absurd (apart 
 pub literal_stands : (own other d : ℕ) (text : Text) (t : Test) → t ≡ Literal d text → TestStands own other t → d < own
 literal_stands own other d text t e s = subst (TestStands own other) e s
 
-pub literal_holds : (S : List Value) (row : List ℕ) (d : ℕ) (text : Text) (t : Test) (b : Bool) → AreTexts S row → d < length row → t ≡ Literal d text → (IsTrue b ↔ (value_of S (slice_index row d) ≡ Const text))
+pub literal_holds : (S : List Value) (row : List ℕ) (d : ℕ) (text : Text) (t : Test) (b : Bool) → AllTexts S row → d < length row → t ≡ Literal d text → (IsTrue b ↔ (value_of S (slice_index row d) ≡ Const text))
     → IsTrue b ↔ HoldsAlone (texts_of S row) t
 literal_holds S row d text t b r h v k = subst (λ (z : Test). IsTrue b ↔ HoldsAlone (texts_of S row) z) (sym v) own
   where
@@ -256,12 +256,12 @@ alone_other own (Literal d text) n = absurd (n d text refl)
 
 -- ---- the tuple at a place
 
-pub partner_is : (S : List Value) (own : NumberTable) (others keys : List (List ℕ)) (tests : List Test) (w k : ℕ) (row cols columns : List ℕ) (b : Bool) → AreDistinctValues S → Each own.rows (AreTexts S)
-    → k < length own.rows → row ≡ numbers_at own.rows k → length row ≡ own.width → Each others (AreTexts S) → Each others (λ r. length r ≡ w) → Each tests (TestStands own.width w)
+pub partner_is : (S : List Value) (own : NumberTable) (others keys : List (List ℕ)) (tests : List Test) (w k : ℕ) (row cols columns : List ℕ) (b : Bool) → ValuesDiffer S → Each own.rows (AllTexts S)
+    → k < length own.rows → row ≡ numbers_at own.rows k → length row ≡ own.width → Each others (AllTexts S) → Each others (λ r. length r ≡ w) → Each tests (TestStands own.width w)
     → AreKeys cols others keys → cols ≡ other_columns tests → columns ≡ own_columns tests → (IsTrue b ↔ (Each tests (HoldsAlone (texts_of S row)) × (column_numbers columns row ∈ keys)))
     → IsPartnered (map (texts_of S) others) tests (texts_of S (numbers_at own.rows k)) ↔ IsTrue b
 partner_is S own others keys tests w k row cols columns b apart mine h is wide theirs long stand ks ce oe t =
-    let texts : AreTexts S row = row_there S own.rows k row mine h is in
+    let texts : AllTexts S row = row_there S own.rows k row mine h is in
     let stands : Each tests (TestStands (length row) w) = subst (λ (z : ℕ). Each tests (TestStands z w)) (sym wide) stand in
     let keyed : AreKeys (other_columns tests) others keys = subst (λ (z : List ℕ). AreKeys z others keys) ce ks in
     let p = partnered_is S row others keys tests w apart texts theirs long stands keyed in
@@ -275,7 +275,7 @@ leaves_all P places left i h l = subst (λ (z : List ℕ). KeepsPlaces P z left)
 
 -- ---- tables
 
-pub texts_at : (S : List Value) (tables : List NumberTable) (r : ℕ) (t : NumberTable) → r < length tables → t ≡ get_or tables r t → Each tables (λ (u : NumberTable). Each u.rows (AreTexts S)) → Each t.rows (AreTexts S)
+pub texts_at : (S : List Value) (tables : List NumberTable) (r : ℕ) (t : NumberTable) → r < length tables → t ≡ get_or tables r t → Each tables (λ (u : NumberTable). Each u.rows (AllTexts S)) → Each t.rows (AllTexts S)
 texts_at S tables r t h is f = f t (subst (λ (z : NumberTable). z ∈ tables) (sym is) (in_at tables r t h))
 
 pub parts_all : (S : List Value) (tables : List NumberTable) (r i : ℕ) (unless : List Unless) (old left : List ℕ) → length unless ≤ i → KeepsPlaces (LacksPartners S tables r (take i unless)) old left → KeepsPlaces (LacksPartners S tables r unless) old left

@@ -35,7 +35,7 @@ use Rattle.dx_tgd.specs.Texts.{tuples_in}
 use Rattle.dx_tgd.proofs.Tables.{no_facts}
 use Rattle.dx_eval.specs.Evaluating.{IsMade, script_cells}
 use Rattle.dx_model.specs.Matches.{rows_of_matches}
-use Rattle.dx_eval.specs.Finding.{AreFoundSteps, IsFoundStep, MatchStep, MatchesFit, matchings}
+use Rattle.dx_eval.specs.Finding.{AllStepsFound, IsFoundStep, MatchStep, MatchesFit, matchings}
 use Rattle.dx_eval.specs.Inserting.{InsertStands, OutStands}
 use Rattle.dx_eval.specs.Keeping.{PartStands, TestStands}
 use Rattle.dx_eval.proofs.Inserts.{sorted_facts}
@@ -66,7 +66,7 @@ none : NumberTable
 none = record { width = 0; rows = [] }
 
 module _ (source target : List TableNames) (list : List Conversion) (steps : List Step) (fit : FitsScript source target list steps) (call : Text → Tuple → Text) (I : List Fact) (S : List Value) (ts : List NumberTable)
-    (found : AreFoundSteps source call I S (matchings steps) ts) where
+    (found : AllStepsFound source call I S (matchings steps) ts) where
   wide_at : (r : ℕ) → r < length (match_widths steps) → (numbers_of_table ts r).width ≡ slice_index_or (match_widths steps) r 0
   unfolding none
   wide_at r k =
@@ -153,7 +153,7 @@ widths_built ws I e = ap widths e ∙ widths_without ws
 -- ---- the whole
 
 pub made_is : (source target : List TableNames) (list : List Conversion) (steps : List Step) (call : Text → Tuple → Text) (I J : List Fact) (T S : List Value) (us ts : List NumberTable) (matches : Matches)
-    (B K : List TableRows) (limit : ℕ) → FitsScript source target list steps → I ≡ J → ValuesAscend S → AreFoundSteps source call I T (matchings steps) us → AllZip (IsRenumbering T S) us ts
+    (B K : List TableRows) (limit : ℕ) → FitsScript source target list steps → I ≡ J → ValuesAscend S → AllStepsFound source call I T (matchings steps) us → AllZip (IsRenumbering T S) us ts
     → script_cells steps (tuples_in T us) ≤ limit → rows_of_matches matches ≡ tuples_in S ts → ((f : Fact) → (f ∈ facts B) ↔ IsInserted target steps (tuples_in S ts) f) → IsSorting B K
     → widths B ≡ map (λ (t : TableNames). length t.columns) target → IsMade source target call steps J limit (record { instance = K; matches = matches })
 made_is source target list steps call I J T S us ts matches B K limit fit e up found order few same inserted sorted wide =

@@ -13,7 +13,7 @@ use Rattle.dx_model.specs.Values.{Tuple, Rows}
 use Rattle.dx_base.specs.Texts.{Text}
 use Rattle.dx_instance.specs.Cells.{NumberTable, NumbersAscend}
 use Rattle.dx_instance.specs.Numbers.{Extends, ValuesAscend}
-use Rattle.dx_joins.specs.Shown.{AreTexts, texts_of}
+use Rattle.dx_joins.specs.Shown.{AllTexts, texts_of}
 use Rattle.dx_joins.proofs.Whole.{stand_grow}
 use Rattle.dx_schema.specs.Names.{TableNames}
 use Rattle.dx_funcs.specs.declared.conversion.Conversion.{Conversion}
@@ -29,7 +29,7 @@ use Rattle.dx_tgd.proofs.Ascending.{tuples_ascend}
 use Rattle.dx_tgd.proofs.Founds.{stand_reordered}
 use Rattle.dx_eval.specs.Evaluating.{AreMatchTables}
 use Rattle.dx_eval.specs.Query.{IsSelected}
-use Rattle.dx_eval.specs.Finding.{AreFoundSteps, IsFoundStep, MatchStep, MatchesFit, matching_in, matchings}
+use Rattle.dx_eval.specs.Finding.{AllStepsFound, IsFoundStep, MatchStep, MatchesFit, matching_in, matchings}
 use Rattle.dx_eval.proofs.Exists.{has_table}
 
 -- ---- steps by their places
@@ -127,17 +127,17 @@ zip_through R Q S (x ∷ xs) (y ∷ ys) (z ∷ zs) f a b = (f x y z a.0 b.0, zip
 -- ---- what is found
 
 module _ (source : List TableNames) (call : Text → Tuple → Text) (I : List Fact) where
-  pub found_grown : (S T : List Value) (ms : List MatchStep) (ts : List NumberTable) → Extends S T → AreFoundSteps source call I S ms ts → AreFoundSteps source call I T ms ts
+  pub found_grown : (S T : List Value) (ms : List MatchStep) (ts : List NumberTable) → Extends S T → AllStepsFound source call I S ms ts → AllStepsFound source call I T ms ts
   found_grown S T ms ts e f =
       zip_grow (IsFoundStep source call I S) (IsFoundStep source call I T) ms ts (λ m t s. stand_grow (length m.select) (IsSelected source call I m.select m.sources m.equal) S T t e s) f
 
-  pub found_texts : (S : List Value) (ms : List MatchStep) (ts : List NumberTable) → AreFoundSteps source call I S ms ts → Each ts (λ (t : NumberTable). Each t.rows (AreTexts S))
-  found_texts S ms ts f = zip_each (IsFoundStep source call I S) (λ (t : NumberTable). Each t.rows (AreTexts S)) ms ts (λ m t s. s.texts) f
+  pub found_texts : (S : List Value) (ms : List MatchStep) (ts : List NumberTable) → AllStepsFound source call I S ms ts → Each ts (λ (t : NumberTable). Each t.rows (AllTexts S))
+  found_texts S ms ts f = zip_each (IsFoundStep source call I S) (λ (t : NumberTable). Each t.rows (AllTexts S)) ms ts (λ m t s. s.texts) f
 
-  pub found_ascend : (S : List Value) (ms : List MatchStep) (ts : List NumberTable) → AreFoundSteps source call I S ms ts → Each ts (λ (t : NumberTable). NumbersAscend t.rows)
+  pub found_ascend : (S : List Value) (ms : List MatchStep) (ts : List NumberTable) → AllStepsFound source call I S ms ts → Each ts (λ (t : NumberTable). NumbersAscend t.rows)
   found_ascend S ms ts f = zip_each (IsFoundStep source call I S) (λ (t : NumberTable). NumbersAscend t.rows) ms ts (λ m t s. s.ascend) f
 
-  pub found_reordered : (S T : List Value) (ms : List MatchStep) (ts us : List NumberTable) → AllZip (IsRenumbering S T) ts us → AreFoundSteps source call I S ms ts → AreFoundSteps source call I T ms us
+  pub found_reordered : (S T : List Value) (ms : List MatchStep) (ts us : List NumberTable) → AllZip (IsRenumbering S T) ts us → AllStepsFound source call I S ms ts → AllStepsFound source call I T ms us
   found_reordered S T ms ts us z f =
       zip_through (IsFoundStep source call I S) (IsRenumbering S T) (IsFoundStep source call I T) ms ts us
       (λ m t u s r. stand_reordered (length m.select) (IsSelected source call I m.select m.sources m.equal) S T t u r s) f z
@@ -150,7 +150,7 @@ module _ (source : List TableNames) (call : Text → Tuple → Text) (I : List F
   unfolding IsTable
   to_table S m t up s = record { ascend = tuples_ascend S t.rows up s.texts s.ascend; exact = s.exact }
 
-  pub to_tables : (S : List Value) (ms : List MatchStep) (ts : List NumberTable) → ValuesAscend S → AreFoundSteps source call I S ms ts → AllZip IsTable ms (tuples_in S ts)
+  pub to_tables : (S : List Value) (ms : List MatchStep) (ts : List NumberTable) → ValuesAscend S → AllStepsFound source call I S ms ts → AllZip IsTable ms (tuples_in S ts)
   to_tables S [] [] up f = tt
   to_tables S [] (t ∷ ts) up f = absurd f
   to_tables S (m ∷ ms) [] up f = absurd f

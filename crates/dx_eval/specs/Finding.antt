@@ -9,7 +9,7 @@ use Rattle.dx_model.specs.Values.{Tuple}
 use Rattle.dx_schema.specs.Names.{TableNames}
 use Rattle.dx_funcs.specs.declared.conversion.Conversion.{Conversion}
 use Rattle.dx_instance.specs.Cells.{NumberTable}
-use Rattle.dx_instance.specs.Numbers.{AreDistinctValues, Extends}
+use Rattle.dx_instance.specs.Numbers.{ValuesDiffer, Extends}
 use Rattle.dx_joins.specs.Shown.{MoreTuples, StandFor}
 use Rattle.dx_tgd.specs.Texts.{tuples_in}
 use Rattle.dx_script.specs.declared.form.Select.{Select}
@@ -65,18 +65,18 @@ IsFoundUpTo most source call I symbols rows m =
     (IsFoundStep source call I symbols m)
 
 -- each match step has rows that stand for its tuples
-abbrev pub AreFoundSteps : List TableNames → (Text → Tuple → Text) → List Fact → List Value
+abbrev pub AllStepsFound : List TableNames → (Text → Tuple → Text) → List Fact → List Value
     → List MatchStep → List NumberTable
     → Type 0
-AreFoundSteps source call I symbols ms tables = AllZip (IsFoundStep source call I symbols) ms tables
+AllStepsFound source call I symbols ms tables = AllZip (IsFoundStep source call I symbols) ms tables
 
 -- what is known of the steps before one of them: what is found of them, and what they leave of the limit
 pub record FoundSoFar (source : List TableNames) (call : Text → Tuple → Text) (I : List Fact)
     (steps : List Step) (old symbols : List Value)
     (ms : List MatchStep) (tables : List NumberTable) (limit left : ℕ) : Type 0 where
-  pub found : AreFoundSteps source call I symbols ms tables
+  pub found : AllStepsFound source call I symbols ms tables
   pub grows : Extends old symbols
-  pub apart : AreDistinctValues symbols
+  pub apart : ValuesDiffer symbols
   pub cells : script_cells steps (tuples_in symbols tables) + left ≡ limit
 
 -- the limit is refused if the script passes it; for want of memory there is no reason

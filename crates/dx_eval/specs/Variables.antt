@@ -44,7 +44,7 @@ abbrev pub cell_count : List (List ℕ) → ℕ
 cell_count vars = sum (map (λ alias. length (alias_variables vars alias)) (below (length vars)))
 
 -- each alias has as many variables as its table has columns
-pub record AreWide (source : List TableNames) (sources : List Text) (vars : List (List ℕ)) : Type 0 where
+pub record WideAliases (source : List TableNames) (sources : List Text) (vars : List (List ℕ)) : Type 0 where
   pub many : length vars ≡ length sources
   pub wide : (alias : ℕ) → alias < length sources
       → length (alias_variables vars alias) ≡ width_named source (slice_index_or sources alias [])
@@ -58,7 +58,7 @@ EqualCellsAgree source sources equal rows =
 -- text wherever cells that are to be equal have
 pub record AreVariables (source : List TableNames) (sources : List Text) (equal : List Equal)
     (vars : List (List ℕ)) (n : ℕ) : Type 0 where
-  pub shape : AreWide source sources vars
+  pub shape : WideAliases source sources vars
   pub below_n : (alias column : ℕ) → AliasHasCell vars alias column → alias_variable vars alias column < n
   pub all : (x : ℕ) → x < n → HasVariable vars x
   pub joined : Each equal (λ (e : Equal). variable_of source sources vars e.left
@@ -71,8 +71,8 @@ pub record AreVariables (source : List TableNames) (sources : List Text) (equal 
 -- ---- words of the steps
 
 -- each cell has a variable of its own, and n is their number
-pub record AreSeparate (source : List TableNames) (sources : List Text) (vars : List (List ℕ)) (n : ℕ) : Type 0 where
-  pub shape : AreWide source sources vars
+pub record SeparateVariables (source : List TableNames) (sources : List Text) (vars : List (List ℕ)) (n : ℕ) : Type 0 where
+  pub shape : WideAliases source sources vars
   pub below_n : (alias column : ℕ) → AliasHasCell vars alias column → alias_variable vars alias column < n
   pub all : (x : ℕ) → x < n → HasVariable vars x
   pub own : (a c b d : ℕ) → AliasHasCell vars a c → AliasHasCell vars b d

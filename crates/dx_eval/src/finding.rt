@@ -5,13 +5,13 @@ ghost use Rattle.dx_base.specs.Members.{Each};
 ghost use Rattle.dx_schema.specs.Names.{table_names_of};
 ghost use Rattle.dx_funcs.specs.Names.{call_named};
 ghost use Rattle.dx_funcs.specs.Serving.{Serves, offered};
-ghost use Rattle.dx_instance.specs.Numbers.{AreDistinctValues, Extends};
+ghost use Rattle.dx_instance.specs.Numbers.{ValuesDiffer, Extends};
 ghost use Rattle.dx_instance.specs.Shown.{shown_tables};
 ghost use Rattle.dx_instance.specs.Stored.{facts};
 ghost use Rattle.dx_tgd.specs.Texts.{tuples_in};
 ghost use Rattle.dx_eval.specs.declared.fault.EvalFault.TheVariants.{Limit as Refused};
 ghost use Rattle.dx_eval.specs.Evaluating.{cells_for, inserted_cells, script_cells};
-ghost use Rattle.dx_eval.specs.Finding.{AreFoundSteps, IsFoundUpTo, IsEvalRefusal, MatchesFit, MatchingFits, matching_in, matchings};
+ghost use Rattle.dx_eval.specs.Finding.{AllStepsFound, IsFoundUpTo, IsEvalRefusal, MatchesFit, MatchingFits, matching_in, matchings};
 
 use crate::fault::EvalFault;
 use crate::matching::step_rows;
@@ -103,7 +103,7 @@ fn matched_rows<F: Fn(u32, &Items<Text>) -> Result<Text, AllocError>, M: Meaning
     requires fit { Each (matching_in step.now) (MatchingFits (table_names_of source.now.schema.now) (offered source.now.host.now)) }
     requires symbols { Extends source.now.rows.now.symbols symbols.old }
     ensures grows { Extends symbols.old symbols.new }
-    ensures apart { AreDistinctValues symbols.new }
+    ensures apart { ValuesDiffer symbols.new }
     ensures rows { IfOk result (λ o. Each (matching_in step.now) (IsFoundUpTo most (table_names_of source.now.schema.now)
         (call_named M.apply (offered source.now.host.now)) (facts (shown_tables source.now.rows.now.symbols source.now.rows.now.tables))
         symbols.new o)) }
@@ -142,7 +142,7 @@ pub(crate) fn found_steps<F: Fn(u32, &Items<Text>) -> Result<Text, AllocError>, 
 ) -> Result<Found, EvalFault>
     requires serves { Serves F.Fn M.apply source.now.host.now }
     requires fit { MatchesFit (table_names_of source.now.schema.now) (offered source.now.host.now) steps.now }
-    ensures found { IfOk result (λ f. AreFoundSteps (table_names_of source.now.schema.now)
+    ensures found { IfOk result (λ f. AllStepsFound (table_names_of source.now.schema.now)
         (call_named M.apply (offered source.now.host.now))
         (facts (shown_tables source.now.rows.now.symbols source.now.rows.now.tables)) f.symbols (matchings steps.now) f.tables.items) }
     ensures within { IfOk result (λ f. script_cells steps.now (tuples_in f.symbols f.tables.items) ≤ limit) }

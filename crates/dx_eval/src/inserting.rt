@@ -6,9 +6,9 @@ ghost use Rattle.dx_model.specs.declared.facts.Fact.{Fact as AnyFact};
 ghost use Rattle.dx_schema.specs.Names.{table_names_of};
 ghost use Rattle.dx_schema.specs.Tables.{schema_widths};
 ghost use Rattle.dx_instance.specs.Numbers.{Extends};
-ghost use Rattle.dx_instance.specs.Shown.{AreBelow, shown_row};
+ghost use Rattle.dx_instance.specs.Shown.{NumbersBelow, shown_row};
 ghost use Rattle.dx_instance.specs.Stored.{facts, widths};
-ghost use Rattle.dx_joins.specs.Shown.{AreTexts, texts_of};
+ghost use Rattle.dx_joins.specs.Shown.{AllTexts, texts_of};
 ghost use Rattle.dx_tgd.specs.Gained.{GainsFacts};
 ghost use Rattle.dx_tgd.specs.Planned.{StandsAs, built};
 ghost use Rattle.dx_tgd.specs.Texts.{tuples_in};
@@ -36,7 +36,7 @@ fn number_of(
     target: &mut Builder,
 ) -> Result<u32, AllocError>
     requires stands { OutStands (length row.now) out.now }
-    requires texts { AreTexts target.old.symbols row.now }
+    requires texts { AllTexts target.old.symbols row.now }
     ensures number { IfOk result (λ n. StandsAs target.new.symbols n (inserted rule place (texts_of target.old.symbols row.now) out.now)) }
     ensures grows { Extends target.old.symbols target.new.symbols }
     ensures same { built target.new ≡ built target.old }
@@ -62,8 +62,8 @@ fn fill(
     target: &mut Builder,
 ) -> Result<(), AllocError>
     requires stand { Each cells.now (OutStands (length row.now)) }
-    requires texts { AreTexts target.old.symbols row.now }
-    ensures below { OnOk result (AreBelow (length target.new.symbols) buffer.new.items) }
+    requires texts { AllTexts target.old.symbols row.now }
+    ensures below { OnOk result (NumbersBelow (length target.new.symbols) buffer.new.items) }
     ensures shown { OnOk result (shown_row target.new.symbols buffer.new.items
         ≡ map (inserted rule place (texts_of target.old.symbols row.now)) cells.now) }
     ensures grows { Extends target.old.symbols target.new.symbols }
@@ -94,7 +94,7 @@ fn insert_places(
     target: &mut Builder,
 ) -> Result<(), AllocError>
     requires cells { CellsFitTable (built target.old) table at.now.rows.now.width cells.now }
-    requires texts { Each at.now.rows.now.rows (AreTexts target.old.symbols) }
+    requires texts { Each at.now.rows.now.rows (AllTexts target.old.symbols) }
     ensures grows { OnOk result (Extends target.old.symbols target.new.symbols) }
     ensures gained { OnOk result (GainsFacts (built target.old) (built target.new)
         (map (placed_fact table at.now.rule (map (texts_of target.old.symbols) at.now.rows.now.rows) cells.now) at.now.places.now)) }
@@ -128,7 +128,7 @@ fn insert_rule(
 ) -> Result<(), AllocError>
     requires stand { (table : AnyText) (kept : Bool) (cells : List AnyOut) → InsertRows table at.now.rule kept cells ∈ steps.now
         → InsertStands (table_names_of schema.now) at.now.rows.now.width table cells }
-    requires texts { Each at.now.rows.now.rows (AreTexts target.old.symbols) }
+    requires texts { Each at.now.rows.now.rows (AllTexts target.old.symbols) }
     requires widths { widths (built target.old) ≡ schema_widths schema.now }
     ensures grows { OnOk result (Extends target.old.symbols target.new.symbols) }
     ensures gained { OnOk result (GainsFacts (built target.old) (built target.new)
@@ -164,7 +164,7 @@ pub(crate) fn insert_all(
     tables: &[Rows],
     target: &mut Builder,
 ) -> Result<(), AllocError>
-    requires texts { Each tables.now (λ t. Each t.rows (AreTexts target.old.symbols)) }
+    requires texts { Each tables.now (λ t. Each t.rows (AllTexts target.old.symbols)) }
     requires steps { StepsStand (table_names_of schema.now) steps.now tables.now }
     requires empty { HasNoFacts (schema_widths schema.now) (built target.old) }
     ensures widths { OnOk result (widths (built target.new) ≡ schema_widths schema.now) }

@@ -5,7 +5,7 @@ ghost use Rattle.dx_model.specs.declared.values.Value.TheVariants.{Const};
 ghost use Rattle.dx_instance.specs.Numbers.{value_of};
 ghost use Rattle.dx_instance.specs.Cells.{NumbersAscend};
 ghost use Rattle.dx_instance.specs.Shown.{numbers_of_table};
-ghost use Rattle.dx_joins.specs.Shown.{AreTexts, texts_of};
+ghost use Rattle.dx_joins.specs.Shown.{AllTexts, texts_of};
 ghost use Rattle.dx_tgd.specs.Texts.{tuples_in};
 ghost use Rattle.dx_script.specs.declared.form.Unless.{Unless as AnyUnless};
 ghost use Rattle.dx_script.specs.declared.form.Step.TheVariants.{KeepRows};
@@ -32,7 +32,7 @@ fn stands_for(symbols: &Symbols, number: u32, text: &Text) -> bool
 
 // Whether the tests that read the tuple's own columns alone hold.
 fn holds_alone(symbols: &Symbols, row: &[u32], tests: &[Test]) -> bool
-    requires texts { AreTexts symbols.now row.now }
+    requires texts { AllTexts symbols.now row.now }
     requires stand { (width : ℕ) × Each tests.now (TestStands (length row.now) width) }
     ensures { IsTrue result ↔ Each tests.now (HoldsAlone (texts_of symbols.now row.now)) }
 {
@@ -63,7 +63,7 @@ impl<'a> Lookup<'a> {
         row: &[u32],
         buffer: &mut Vec<u32>,
     ) -> Result<bool, AllocError>
-        requires texts { AreTexts symbols.now row.now }
+        requires texts { AllTexts symbols.now row.now }
         requires stand { (width : ℕ) × Each self.now.tests.now (TestStands (length row.now) width) }
         requires ascend { NumbersAscend self.now.keys.now.rows }
         ensures { IfOk result (λ b. IsTrue b
@@ -88,7 +88,7 @@ fn left_by_part(
     symbols: &Symbols,
 ) -> Result<Vec<u32>, AllocError>
     requires places { Each places.now (λ k. k < length own.now.rows) }
-    requires texts { Each own.now.rows (AreTexts symbols.now) × Each other.now.rows (AreTexts symbols.now) }
+    requires texts { Each own.now.rows (AllTexts symbols.now) × Each other.now.rows (AllTexts symbols.now) }
     requires stand { Each tests.now (TestStands own.now.width other.now.width) }
     ensures { IfOk result (λ v. KeepsPlaces (LacksPartner symbols.now own.now.rows other.now.rows tests.now) places.now v.items) }
 {

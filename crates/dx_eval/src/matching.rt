@@ -3,7 +3,7 @@ ghost use Rattle.std.specs.Prelude.{◌≡◌, [], ◌∷◌, IfOk, MatchOption,
 ghost use Rattle.dx_schema.specs.Names.{table_names_of};
 ghost use Rattle.dx_funcs.specs.Names.{call_named};
 ghost use Rattle.dx_funcs.specs.Serving.{Serves, offered};
-ghost use Rattle.dx_instance.specs.Numbers.{AreDistinctValues, Extends};
+ghost use Rattle.dx_instance.specs.Numbers.{ValuesDiffer, Extends};
 ghost use Rattle.dx_instance.specs.Shown.{shown_tables};
 ghost use Rattle.dx_instance.specs.Stored.{facts};
 ghost use Rattle.dx_joins.specs.Shown.{MoreTuples, StandFor};
@@ -51,7 +51,7 @@ pub(crate) fn step_rows<F: Fn(u32, &Items<Text>) -> Result<Text, AllocError>, M:
         (record { select = select.now; sources = sources.now; equal = equal.now }) }
     requires symbols { Extends source.now.rows.now.symbols symbols.old }
     ensures grows { Extends symbols.old symbols.new }
-    ensures apart { AreDistinctValues symbols.new }
+    ensures apart { ValuesDiffer symbols.new }
     ensures rows { IfOk result (λ o. MatchOption o
         (MoreTuples most (IsSelected (table_names_of source.now.schema.now) (call_named M.apply (offered source.now.host.now))
         (facts (shown_tables source.now.rows.now.symbols source.now.rows.now.tables)) select.now sources.now equal.now))

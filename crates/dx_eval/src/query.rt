@@ -7,7 +7,7 @@ ghost use Rattle.dx_funcs.specs.Names.{first_named};
 ghost use Rattle.dx_funcs.specs.Serving.{offered};
 ghost use Rattle.dx_script.specs.Fits.{CellFits, SelectFits, EqualFits};
 ghost use Rattle.dx_script.specs.Names.{table_names};
-ghost use Rattle.dx_eval.specs.Variables.{AreWide, variable_of};
+ghost use Rattle.dx_eval.specs.Variables.{WideAliases, variable_of};
 ghost use Rattle.dx_eval.specs.Query.{IsQuery, alias_atoms, code_found, derived_of_selects, next_after, shown_from};
 
 use crate::names::table_number;
@@ -46,7 +46,7 @@ fn premise_of(
     rows: &[Items<u32>],
 ) -> Result<Vec<Atom>, AllocError>
     requires named { Each sources.now (λ name. name ∈ table_names (table_names_of source.now)) }
-    requires wide { AreWide (table_names_of source.now) sources.now rows.now }
+    requires wide { WideAliases (table_names_of source.now) sources.now rows.now }
     ensures { IfOk result (λ v. v.items ≡ alias_atoms (table_names_of source.now) sources.now rows.now) }
 {
     let mut premise = Vec::new(alloc);
@@ -81,7 +81,7 @@ fn arguments(
     cells: &[CellRef],
 ) -> Result<Items<u32>, AllocError>
     requires named { Each sources.now (λ name. name ∈ table_names (table_names_of source.now)) }
-    requires wide { AreWide (table_names_of source.now) sources.now rows.now }
+    requires wide { WideAliases (table_names_of source.now) sources.now rows.now }
     requires fit { Each cells.now (CellFits (table_names_of source.now) sources.now) }
     ensures { IfOk result (λ args. args ≡ map (variable_of (table_names_of source.now) sources.now rows.now) cells.now) }
 {
@@ -102,7 +102,7 @@ fn derived_variables<F: Fn(u32, &Items<Text>) -> Result<Text, AllocError>, M: Me
     select: &[Select],
 ) -> Result<Vec<Derived>, AllocError>
     requires named { Each sources.now (λ name. name ∈ table_names (table_names_of source.now)) }
-    requires wide { AreWide (table_names_of source.now) sources.now rows.now }
+    requires wide { WideAliases (table_names_of source.now) sources.now rows.now }
     requires fit { Each select.now (SelectFits (table_names_of source.now) (offered host.now) sources.now) }
     ensures { IfOk result (λ v. v.items
         ≡ derived_of_selects (offered host.now) (variable_of (table_names_of source.now) sources.now rows.now) select.now) }
@@ -130,7 +130,7 @@ fn shown_variables<F: Fn(u32, &Items<Text>) -> Result<Text, AllocError>, M: Mean
     first: u32,
 ) -> Result<Vec<u32>, AllocError>
     requires named { Each sources.now (λ name. name ∈ table_names (table_names_of source.now)) }
-    requires wide { AreWide (table_names_of source.now) sources.now rows.now }
+    requires wide { WideAliases (table_names_of source.now) sources.now rows.now }
     requires fit { Each select.now (SelectFits (table_names_of source.now) (offered host.now) sources.now) }
     ensures shown { IfOk result (λ v. v.items ≡ shown_from
         (variable_of (table_names_of source.now) sources.now rows.now) first select.now) }

@@ -1,7 +1,7 @@
 // The match tables of a script, at one of its rules.
 ghost use Rattle.std.specs.Prelude.{◌<◌, length};
 ghost use Rattle.dx_base.specs.Members.{Each};
-ghost use Rattle.dx_joins.specs.Shown.{AreTexts};
+ghost use Rattle.dx_joins.specs.Shown.{AllTexts};
 
 use dx_instance::{Rows, Symbols};
 
@@ -12,5 +12,5 @@ pub(crate) struct RuleTables<'a> {
     pub(crate) tables: &'a [Rows],
     pub(crate) symbols: &'a Symbols,
     ghost there: { rule < length tables.now },
-    ghost texts: { Each tables.now (λ t. Each t.rows (AreTexts symbols.now)) },
+    ghost texts: { Each tables.now (λ t. Each t.rows (AllTexts symbols.now)) },
 }

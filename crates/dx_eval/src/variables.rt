@@ -5,7 +5,7 @@ ghost use Rattle.dx_base.specs.Members.{◌∈◌, Each};
 ghost use Rattle.dx_schema.specs.Names.{table_names_of};
 ghost use Rattle.dx_script.specs.Fits.{CellFits, EqualFits};
 ghost use Rattle.dx_script.specs.Names.{table_names};
-ghost use Rattle.dx_eval.specs.Variables.{AreSeparate, AreVariables, AreWide, IsUnified, renamed, variable_of};
+ghost use Rattle.dx_eval.specs.Variables.{SeparateVariables, AreVariables, WideAliases, IsUnified, renamed, variable_of};
 
 use crate::names::{column_number, table_width};
 use dx_base::{Items, Text, no_number_left};
@@ -35,7 +35,7 @@ fn fresh(alloc: Global, first: u32, count: u32) -> Result<Items<u32>, AllocError
 // A variable of its own for each cell.
 fn separate(alloc: Global, source: &Schema, sources: &[Text]) -> Result<Variables, AllocError>
     requires { Each sources.now (λ name. name ∈ table_names (table_names_of source.now)) }
-    ensures { IfOk result (λ v. AreSeparate (table_names_of source.now) sources.now v.rows.items v.count) }
+    ensures { IfOk result (λ v. SeparateVariables (table_names_of source.now) sources.now v.rows.items v.count) }
 {
     let mut rows = Vec::new(alloc);
     let mut count = 0u32;
@@ -106,7 +106,7 @@ pub(crate) fn variable_of_cell(
 ) -> u32
     requires named { Each sources.now (λ name. name ∈ table_names (table_names_of source.now)) }
     requires fits { CellFits (table_names_of source.now) sources.now cell.now }
-    requires wide { AreWide (table_names_of source.now) sources.now rows.now }
+    requires wide { WideAliases (table_names_of source.now) sources.now rows.now }
     ensures { result ≡ variable_of (table_names_of source.now) sources.now rows.now cell.now }
 {
     let alias = cell.alias as usize;

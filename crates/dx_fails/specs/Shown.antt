@@ -39,7 +39,7 @@ pub record IsWidth (n : ℕ) : Type 0 where
   pub few : n < 2 ^ 32
 
 -- a table of this width has these columns; those on the left are so few that they have numbers
-pub record AreColumnsWithin (width : ℕ) (d : Determines) : Type 0 where
+pub record ColumnsWithin (width : ℕ) (d : Determines) : Type 0 where
   pub left : (c : ℕ) → c ∈ d.left.now → c < width
   pub few : length d.left.now < 2 ^ 32
   pub right : (c : ℕ) → c ∈ d.right.now → c < width

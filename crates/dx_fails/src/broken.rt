@@ -5,7 +5,7 @@ ghost use Rattle.dx_model.specs.Tables.{KeysHold};
 ghost use Rattle.dx_schema.specs.Tables.{model_tables, schema_widths};
 ghost use Rattle.dx_instance.specs.Stored.{facts, rows_of, table_at, widths};
 ghost use Rattle.dx_holds.specs.Columns.{RowsAgree, RowsDetermine};
-ghost use Rattle.dx_fails.specs.Shown.{AllIn, AreColumnsWithin, IsFirstApart, IsViolation, IsBrokenIn, IsBrokenKey};
+ghost use Rattle.dx_fails.specs.Shown.{AllIn, ColumnsWithin, IsFirstApart, IsViolation, IsBrokenIn, IsBrokenKey};
 
 use crate::determining::{Determines, all_columns, determinations};
 use dx_instance::Instance;
@@ -56,7 +56,7 @@ fn apart_in(
     columns: &Determines<'_>,
 ) -> Result<Option<Apart>, AllocError>
     requires table { table < length instance.now }
-    requires columns { AreColumnsWithin (table_at instance.now table).width columns.now }
+    requires columns { ColumnsWithin (table_at instance.now table).width columns.now }
     ensures { IfOk result (λ o. MatchOption o (RowsDetermine instance.now table columns.now.left.now columns.now.right.now)
         (IsViolation instance.now table columns.now.left.now columns.now.right.now)) }
 {

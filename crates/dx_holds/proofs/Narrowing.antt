@@ -19,7 +19,7 @@ use Rattle.dx_model.specs.Rules.{cell_value, cells_of}
 use Rattle.dx_instance.specs.Stored.{TableRows, rows_of, table_at}
 use Rattle.dx_instance.specs.Places.{IsFirstWith, HasValues, row_at, value_at}
 use Rattle.dx_holds.specs.declared.matching.Found.{Found}
-use Rattle.dx_holds.specs.Searching.{AreFoundCells, ExtendsFound, IsVariableCell, AtomSaysRow, Misses, AddsExactly, HasNoMatchBetween, found_variables, variable_value}
+use Rattle.dx_holds.specs.Searching.{FoundCells, ExtendsFound, IsVariableCell, AtomSaysRow, Misses, AddsExactly, HasNoMatchBetween, found_variables, variable_value}
 
 -- ---- lists
 
@@ -57,10 +57,10 @@ names_below n found h v m = let r = from_map (λ (b : Found). b.variable) found 
 
 module _ (I : List TableRows) (n : ℕ) (found : List Found) (cell : Found) where
   -- there is room for a variable that was not found
-  pub room_for : AreFoundCells I n found → ¬ (cell.variable ∈ found_variables found) → cell.variable < n → length found < n
+  pub room_for : FoundCells I n found → ¬ (cell.variable ∈ found_variables found) → cell.variable < n → length found < n
   room_for good k b = let h = room_more (found_variables found) n cell.variable good.once (names_below n found good.below) k b in omega (arith, h, length-map found (λ (x : Found). x.variable))
 
-  met_before : (b : Found) → AreFoundCells I n found → b ∈ found → b.variable ≡ cell.variable → variable_value I b ≡ variable_value I cell → AddsExactly I n found (λ values. values cell.variable ≡ variable_value I cell) found
+  met_before : (b : Found) → FoundCells I n found → b ∈ found → b.variable ≡ cell.variable → variable_value I b ≡ variable_value I cell → AddsExactly I n found (λ values. values cell.variable ≡ variable_value I cell) found
   met_before b good m e v = record {
     begins = begins_none found;
     good = good;
@@ -73,12 +73,12 @@ module _ (I : List TableRows) (n : ℕ) (found : List Found) (cell : Found) wher
     none = λ values w d. v (sym (w b m) ∙ (ap values e ∙ d));
   }
 
-  pub answer_before : (b : Found) → AreFoundCells I n found → b ∈ found → b.variable ≡ cell.variable → (r : Bool) → (IsTrue r ↔ (variable_value I b ≡ variable_value I cell))
+  pub answer_before : (b : Found) → FoundCells I n found → b ∈ found → b.variable ≡ cell.variable → (r : Bool) → (IsTrue r ↔ (variable_value I b ≡ variable_value I cell))
       → MatchBool r (AddsExactly I n found (λ values. values cell.variable ≡ variable_value I cell) found) (Misses I found (λ values. values cell.variable ≡ variable_value I cell) found)
   answer_before b good m e true h = met_before b good m e (h.0 refl)
   answer_before b good m e false h = failed_before b m e (λ q. absurd (false≢true (h.1 q)))
 
-  pub met_now : AreFoundCells I n found → IsVariableCell I cell → ¬ (cell.variable ∈ found_variables found) → cell.variable < n → AddsExactly I n found (λ values. values cell.variable ≡ variable_value I cell) (found ++ cell ∷ [])
+  pub met_now : FoundCells I n found → IsVariableCell I cell → ¬ (cell.variable ∈ found_variables found) → cell.variable < n → AddsExactly I n found (λ values. values cell.variable ≡ variable_value I cell) (found ++ cell ∷ [])
   met_now good c new b = record {
     begins = (cell ∷ [], refl);
     good = record {
@@ -95,7 +95,7 @@ module _ (I : List TableRows) (n : ℕ) (found : List Found) (cell : Found) wher
 -- ---- one cell
 
 -- a cell whose value is known
-pub answer_known : (I : List TableRows) (n : ℕ) (found : List Found) (f : (ℕ → Value) → Value) (w : Value) (r : Bool) → AreFoundCells I n found → ((values : ℕ → Value) → IsTrue r ↔ (f values ≡ w))
+pub answer_known : (I : List TableRows) (n : ℕ) (found : List Found) (f : (ℕ → Value) → Value) (w : Value) (r : Bool) → FoundCells I n found → ((values : ℕ → Value) → IsTrue r ↔ (f values ≡ w))
     → MatchBool r (AddsExactly I n found (λ values. f values ≡ w) found) (Misses I found (λ values. f values ≡ w) found)
 answer_known I n found f w true good h = record {
   begins = begins_none found;
@@ -110,7 +110,7 @@ answer_known I n found f w false good h = record { begins = begins_none found; n
 abbrev pub MeetsFirst : (ℕ → Text) → List Cell → List Value → ℕ → (ℕ → Value) → Type 0
 MeetsFirst T a b i values = map (cell_value T values) (take i a) ≡ take i b
 
-pub row_start : (T : ℕ → Text) (I : List TableRows) (n : ℕ) (a : List Cell) (b : List Value) (found : List Found) → AreFoundCells I n found → AddsExactly I n found (MeetsFirst T a b 0) found
+pub row_start : (T : ℕ → Text) (I : List TableRows) (n : ℕ) (a : List Cell) (b : List Value) (found : List Found) → FoundCells I n found → AddsExactly I n found (MeetsFirst T a b 0) found
 row_start T I n a b found good = record { begins = begins_none found; good = good; exact = λ values. ((λ w. (w, refl)), (λ w. w.0)) }
 
 module _ (T : ℕ → Text) (I : List TableRows) (n : ℕ) (a : List Cell) (b : List Value) (start now : List Found) (i : ℕ) (x : Cell) (y : Value)

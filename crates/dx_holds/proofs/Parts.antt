@@ -17,7 +17,7 @@ use Rattle.dx_instance.specs.Stored.{TableRows, facts, rows_of}
 use Rattle.dx_instance.specs.Places.{row_at}
 use Rattle.dx_instance.proofs.StoredFacts.{fact_from_row, row_from_fact}
 use Rattle.dx_holds.specs.declared.matching.Found.{Found}
-use Rattle.dx_holds.specs.Searching.{AreFoundCells, HaveNoMatch, ExtendsFound, IsState, AtomSaysRow, AddsExactly, NoneLeft, Rest, HasNoMatchBetween, found_variables, variable_value}
+use Rattle.dx_holds.specs.Searching.{FoundCells, HaveNoMatch, ExtendsFound, IsState, AtomSaysRow, AddsExactly, NoneLeft, Rest, HasNoMatchBetween, found_variables, variable_value}
 use Rattle.dx_holds.proofs.Narrowing.{distinct_few, each_last, room_more}
 
 -- ---- values of what was found
@@ -48,7 +48,7 @@ distinct_cross [] ys z d m k = elim m [ ]
 distinct_cross {X} (x ∷ xs) ys z d (here e) k = d.0 (in_right xs (subst (λ (w : X). w ∈ ys) (sym e) k))
 distinct_cross (x ∷ xs) ys z d (there m) k = distinct_cross xs ys z d.1 m k
 
-mixed_gives : (I : List TableRows) (n : ℕ) (old new : List Found) (b : IsPrefix old new) (values : ℕ → Value) → AreFoundCells I n new → ExtendsFound I old values → ExtendsFound I new (mixed I b.0 values)
+mixed_gives : (I : List TableRows) (n : ℕ) (old new : List Found) (b : IsPrefix old new) (values : ℕ → Value) → FoundCells I n new → ExtendsFound I old values → ExtendsFound I new (mixed I b.0 values)
 mixed_gives I n old new b values good g x m =
     let d : Distinct (found_variables old ++ found_variables b.0) = subst (λ (l : List ℕ). Distinct l) (ap found_variables b.1 ∙ map-append (λ (y : Found). y.variable) old b.0) good.once in
     elim (from_append old (subst (λ (l : List Found). x ∈ l) b.1 m)) [
@@ -64,7 +64,7 @@ drop_front [] (y ∷ ys) = refl
 drop_front (x ∷ xs) ys = drop_front xs ys
 
 -- values that fail after more was done fail before
-pub fails_after : (T : ℕ → Text) (A : List Atom) (I : List TableRows) (n : ℕ) (old new : List Found) (before done : List ℕ) → IsPrefix old new → IsPrefix before done → AreFoundCells I n new → NoneLeft A new done (Some (length old))
+pub fails_after : (T : ℕ → Text) (A : List Atom) (I : List TableRows) (n : ℕ) (old new : List Found) (before done : List ℕ) → IsPrefix old new → IsPrefix before done → FoundCells I n new → NoneLeft A new done (Some (length old))
     → HaveNoMatch T A I new done → HaveNoMatch T A I old before
 fails_after T A I n old new before done b d good none fails values g rest =
     let newer : drop (length old) new ≡ b.0 = ap (drop (length old)) b.1 ∙ drop_front old b.0 in

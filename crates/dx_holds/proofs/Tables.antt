@@ -67,11 +67,11 @@ apart (r ∷ rows) (suc p) (suc q) d h b e = apart rows p q d.1 (omega arith) (o
 
 -- ---- keys and dependencies
 
-abbrev pub AreWide : List TableRows → Type 0
-AreWide I = Each I (λ t. Each t.rows (λ (r : List Value). length r ≡ t.width))
+abbrev pub WideAliases : List TableRows → Type 0
+WideAliases I = Each I (λ t. Each t.rows (λ (r : List Value). length r ≡ t.width))
 
-abbrev pub AreDistinct : List TableRows → Type 0
-AreDistinct I = Each I (λ t. Distinct t.rows)
+abbrev pub DistinctRanks : List TableRows → Type 0
+DistinctRanks I = Each I (λ t. Distinct t.rows)
 
 -- the determination of a key of a table
 abbrev key_in : TableOf → Key → Determination
@@ -138,7 +138,7 @@ module _ (f : Forest) (I : List TableRows) (t : ℕ) (e : widths I ≡ schema_wi
   rows_determine : (d : Dep) → d ∈ (schema_table f t).deps → RowsDetermine I t d.columns d.decides
   rows_determine d m p q b r agree = sym (places_fit p q b r (dep_of d) (in_right (key_determinations (schema_table f t)) (in_map dep_of m)) (sym agree))
 
-  rows_differ : AreWide I → AreDistinct I → (k : Key) → k ∈ (schema_table f t).keys → RowsDiffer I t k.columns
+  rows_differ : WideAliases I → DistinctRanks I → (k : Key) → k ∈ (schema_table f t).keys → RowsDiffer I t k.columns
   rows_differ wide distinct k m p q b r agree =
       let w : ℕ = length (schema_table f t).columns in
       let row_p = in_at (rows_of I t) p [] (omega (arith, b, r)) in
@@ -149,7 +149,7 @@ module _ (f : Forest) (I : List TableRows) (t : ℕ) (e : widths I ≡ schema_wi
       let wq : 0 + w ≡ length (row_at I t q) = omega (arith, as_wide f I t e h, mine (row_at I t q) row_q) in
       apart (rows_of I t) p q (distinct (table_at I t) (in_at I t no_rows h)) b r (sym (values_from w 0 (row_at I t p) wp) ∙ (right ∙ values_from w 0 (row_at I t q) wq))
 
-pub table_holds : (f : Forest) (I : List TableRows) (t : ℕ) → widths I ≡ schema_widths f → AreWide I → AreDistinct I → t < length I → KeysHold (model_tables f) (facts I) → TableHolds I t (schema_table f t)
+pub table_holds : (f : Forest) (I : List TableRows) (t : ℕ) → widths I ≡ schema_widths f → WideAliases I → DistinctRanks I → t < length I → KeysHold (model_tables f) (facts I) → TableHolds I t (schema_table f t)
 table_holds f I t e wide distinct h hold = (rows_differ f I t e h hold wide distinct, rows_determine f I t e h hold)
 
 -- ---- links

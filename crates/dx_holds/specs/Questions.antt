@@ -60,8 +60,8 @@ IsNextMatch q found a x p =
 -- ---- atoms
 
 -- what was found, of variables below n, makes the atoms that are done facts
-abbrev pub AreDone : Question → ℕ → List Found → List ℕ → Type 0
-AreDone q = IsState (texts_in q) q.atoms.now q.target.now
+abbrev pub IsStateOf : Question → ℕ → List Found → List ℕ → Type 0
+IsStateOf q = IsState (texts_in q) q.atoms.now q.target.now
 
 -- with what was found the atoms that are not done can't all be facts
 abbrev pub RestFails : Question → List Found → List ℕ → Type 0

@@ -46,14 +46,14 @@ abbrev pub IsVariableCell : List TableRows → Found → Type 0
 IsVariableCell I b = HasCellAt I b.table b.place b.column
 
 -- each variable once, with a cell of the instance; all are below n
-pub record AreFoundCells (I : List TableRows) (n : ℕ) (found : List Found) : Type 0 where
+pub record FoundCells (I : List TableRows) (n : ℕ) (found : List Found) : Type 0 where
   pub once : Distinct (found_variables found)
   pub cells : Each found (IsVariableCell I)
   pub below : Each found (λ b. b.variable < n)
 
 -- what was found has cells of the instance, and there is room for each existential variable of these cells
 pub record HasRoomForCells (I : List TableRows) (cells : List Cell) (found : Vec Found Global) : Type 0 where
-  pub good : AreFoundCells I (vec_capacity found) found.items
+  pub good : FoundCells I (vec_capacity found) found.items
   pub room : (v : ℕ) → Ex v ∈ cells → v < vec_capacity found
 
 -- there is room for each existential variable of the atoms, and for each atom
@@ -69,7 +69,7 @@ ExtendsFound I found values = Each found (λ b. values b.variable ≡ variable_v
 pub record AddsExactly (I : List TableRows) (n : ℕ) (old : List Found) (P : (ℕ → Value) → Type 0)
     (new : List Found) : Type 0 where
   pub begins : IsPrefix old new
-  pub good : AreFoundCells I n new
+  pub good : FoundCells I n new
   pub exact : (values : ℕ → Value) → ExtendsFound I new values ↔ (ExtendsFound I old values × P values)
 
 -- nothing of which old is true has P
@@ -101,7 +101,7 @@ HaveNoMatch T A I found done = (values : ℕ → Value) → ExtendsFound I found
 -- what was found makes the atoms that are done facts
 pub record IsState (T : ℕ → Text) (A : List Atom) (I : List TableRows) (n : ℕ) (found : List Found)
     (done : List ℕ) : Type 0 where
-  pub good : AreFoundCells I n found
+  pub good : FoundCells I n found
   pub once : Distinct done
   pub within : Each done (λ i. i < length A)
   pub says : (values : ℕ → Value) → ExtendsFound I found values

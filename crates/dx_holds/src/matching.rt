@@ -7,7 +7,7 @@ ghost use Rattle.dx_model.specs.declared.rules.Cell.TheVariants.{Ex, Var};
 ghost use Rattle.dx_model.specs.Rules.{cells_of};
 ghost use Rattle.dx_instance.specs.Stored.{rows_of};
 ghost use Rattle.dx_instance.specs.Places.{value_at};
-ghost use Rattle.dx_holds.specs.Searching.{AreFoundCells, ExtendsFound, HasCellAt, HasRoomForCells, IsVariableCell, found_variables};
+ghost use Rattle.dx_holds.specs.Searching.{FoundCells, ExtendsFound, HasCellAt, HasRoomForCells, IsVariableCell, found_variables};
 ghost use Rattle.dx_holds.specs.Questions.{FindsRow, HasValue, IsNextMatch, NowhereFrom, SaysRow, Settles, TakesValue};
 
 use crate::question::Question;
@@ -75,7 +75,7 @@ fn shows(question: &Question, cell: &Cell, value: &Value) -> bool
 /// Gives the variable the value of the cell, if it can have it.
 fn meet_variable(target: &Instance, found: &mut Vec<Found>, cell: Found) -> bool
     requires cell { IsVariableCell target.now cell }
-    requires good { AreFoundCells target.now (vec_capacity found.old) found.old.items }
+    requires good { FoundCells target.now (vec_capacity found.old) found.old.items }
     requires below { cell.variable < vec_capacity found.old }
     ensures capacity { vec_capacity found.new ≡ vec_capacity found.old }
     ensures cases { Settles result target.now found.old found.new (TakesValue target.now cell) }
@@ -145,7 +145,7 @@ fn meet_row(question: &Question, found: &mut Vec<Found>, atom: &Atom, place: u32
 /// None too if a text has too many owners.
 fn known_value(question: &Question, found: &[Found], cell: &Cell) -> Option<Value>
     requires known { (x : ℕ) → cell.now ≡ Var x → Var x ∈ cells_of question.now.atoms.now }
-    requires good { (n : ℕ) × AreFoundCells question.now.target.now n found.now }
+    requires good { (n : ℕ) × FoundCells question.now.target.now n found.now }
     ensures { IfSome result (λ v. (values : ℕ → AnyValue) → ExtendsFound question.now.target.now found.now values
         → HasValue question.now cell.now v values) }
 {
@@ -163,7 +163,7 @@ fn known_value(question: &Question, found: &[Found], cell: &Cell) -> Option<Valu
 /// The least place from `from` on whose row agrees with the atom in the first column that is known.
 fn candidate(question: &Question, found: &[Found], atom: &Atom, from: u32) -> Option<u32>
     requires atom { atom.now ∈ question.now.atoms.now }
-    requires good { (n : ℕ) × AreFoundCells question.now.target.now n found.now }
+    requires good { (n : ℕ) × FoundCells question.now.target.now n found.now }
     ensures { MatchOption result (NowhereFrom question.now found.now atom.now from) (IsNextMatch question.now found.now atom.now from) }
 {
     let target = question.target;

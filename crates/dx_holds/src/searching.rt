@@ -3,7 +3,7 @@ ghost use Rattle.std.specs.Prelude.{◌≡◌, ◌↔◌, ◌<◌, ◌≤◌, �
 ghost use Rattle.dx_base.specs.Members.{◌∈◌, IsPrefix};
 ghost use Rattle.dx_model.specs.declared.rules.Cell.TheVariants.{Ex};
 ghost use Rattle.dx_holds.specs.Searching.{HasRoomForAtoms, IsAtomWanted, NoneLeft, found_variables};
-ghost use Rattle.dx_holds.specs.Questions.{AreDone, RestFails};
+ghost use Rattle.dx_holds.specs.Questions.{IsStateOf, RestFails};
 
 use crate::matching::{Found, found_at, next_place};
 use crate::question::Question;
@@ -69,7 +69,7 @@ pub(crate) fn extend(
     done: &mut Vec<usize>,
     since: Option<usize>,
 ) -> bool
-    requires state { AreDone question.now (vec_capacity found.old) found.old.items done.old.items }
+    requires state { IsStateOf question.now (vec_capacity found.old) found.old.items done.old.items }
     requires room { HasRoomForAtoms question.now.atoms.now found.old done.old }
     requires since { IfSome since (λ m. m ≤ length found.old.items) }
     ensures found_capacity { vec_capacity found.new ≡ vec_capacity found.old }
@@ -77,7 +77,7 @@ pub(crate) fn extend(
     ensures found_begins { IsPrefix found.old.items found.new.items }
     ensures done_begins { IsPrefix done.old.items done.new.items }
     ensures cases { MatchBool result
-        (AreDone question.now (vec_capacity found.old) found.new.items done.new.items
+        (IsStateOf question.now (vec_capacity found.old) found.new.items done.new.items
         × NoneLeft question.now.atoms.now found.new.items done.new.items since)
         (RestFails question.now found.old.items done.old.items) }
 {

@@ -12,7 +12,7 @@ use Rattle.dx_model.specs.declared.values.NullId.{NullId}
 use Rattle.dx_instance.specs.Chains.{last_code}
 use Rattle.dx_instance.proofs.ChainFacts.{last_after, last_front, last_hits, last_most}
 use Rattle.dx_hom.specs.declared.matching.Found.{Found}
-use Rattle.dx_hom.specs.Bound.{AreBound, AreLinked, bucket, buckets_of, found_at}
+use Rattle.dx_hom.specs.Bound.{LinksBoundNulls, LinksBuckets, bucket, buckets_of, found_at}
 use Rattle.dx_hom.specs.Narrowing.{found_nulls}
 
 -- ---- links of numbers
@@ -22,7 +22,7 @@ zero_at zero b d = refl
 zero_at (suc n) zero d = refl
 zero_at (suc n) (suc b) d = zero_at n b d
 
-linked_none : (n : ℕ) → AreLinked [] (replicate n 0) []
+linked_none : (n : ℕ) → LinksBuckets [] (replicate n 0) []
 linked_none n = record { many = refl; head = λ b h. zero_at n b 0; earlier = λ p h. absurd (omega arith) }
 
 -- the last place of a number after one more
@@ -39,8 +39,8 @@ one_longer keys b = omega (arith, length-append keys (b ∷ []))
 differs : (b c : ℕ) → (b == c) ≡ false → ¬ (c ≡ b)
 differs b c f e = let t = eq-eqb b c (sym e) in absurd (cc (t, f))
 
-linked_more : (keys heads before : List ℕ) (b : ℕ) → b < length heads → AreLinked keys heads before
-    → AreLinked (keys ++ b ∷ []) (set heads b (length keys + 1)) (before ++ get_or heads b 0 ∷ [])
+linked_more : (keys heads before : List ℕ) (b : ℕ) → b < length heads → LinksBuckets keys heads before
+    → LinksBuckets (keys ++ b ∷ []) (set heads b (length keys + 1)) (before ++ get_or heads b 0 ∷ [])
 linked_more keys heads before b h l = record { many = many; head = head; earlier = earlier }
   where
     long : length (keys ++ b ∷ []) ≡ suc (length keys)
@@ -79,8 +79,8 @@ linked_more keys heads before b h l = record { many = many; head = head; earlier
           rw (left, right, last_front b keys (b ∷ []) p (omega (arith, s)), l.head b h, s) refl
     ]
 
-linked_less : (keys heads before : List ℕ) (b old : ℕ) → b < length heads → AreLinked (keys ++ b ∷ []) heads (before ++ old ∷ [])
-    → AreLinked keys (set heads b old) before
+linked_less : (keys heads before : List ℕ) (b old : ℕ) → b < length heads → LinksBuckets (keys ++ b ∷ []) heads (before ++ old ∷ [])
+    → LinksBuckets keys (set heads b old) before
 linked_less keys heads before b old h l = record { many = many; head = head; earlier = earlier }
   where
     long : length (keys ++ b ∷ []) ≡ suc (length keys)
@@ -123,13 +123,13 @@ buckets_more : (m : ℕ) (cells : List Found) (cell : Found)
     → buckets_of m (cells ++ cell ∷ []) ≡ buckets_of m cells ++ bucket m cell.null ∷ []
 buckets_more m cells cell = map-append (λ (b : Found). bucket m b.null) cells (cell ∷ [])
 
-pub bound_none : (n : ℕ) (heads : List ℕ) → 0 < n → heads ≡ replicate n 0 → AreBound [] heads []
+pub bound_none : (n : ℕ) (heads : List ℕ) → 0 < n → heads ≡ replicate n 0 → LinksBoundNulls [] heads []
 bound_none n heads h e = record { some = rw (e, length-replicate {A = ℕ} n 0) h; linked = rw e (linked_none n) }
 
 -- one more
 pub bound_more : (cells new : List Found) (heads before next : List ℕ) (cell : Found) (b code old : ℕ) → b ≡ bucket (length heads) cell.null
     → b < length heads → code ≡ length cells → old ≡ get_or heads b 0 → new ≡ cells ++ cell ∷ [] → next ≡ before ++ old ∷ []
-    → AreBound cells heads before → AreBound new (set heads b (code + 1)) next
+    → LinksBoundNulls cells heads before → LinksBoundNulls new (set heads b (code + 1)) next
 bound_more cells new heads before next cell b code old e h c o n x l =
     let m : length (set heads b (code + 1)) ≡ length heads = length-set heads b (code + 1) in
     let w = linked_more (buckets_of (length heads) cells) heads before b h l.linked in
@@ -142,7 +142,7 @@ bound_more cells new heads before next cell b code old e h c o n x l =
 -- one less
 pub bound_less : (cells front : List Found) (heads before rest : List ℕ) (cell : Found) (b old x : ℕ) (o : Option ℕ)
     → b ≡ bucket (length heads) cell.null → b < length heads → cells ≡ front ++ cell ∷ [] → before ≡ rest ++ option_to_list o
-    → o ≡ Some x → old ≡ unwrap_or o 0 → AreBound cells heads before → AreBound front (set heads b old) rest
+    → o ≡ Some x → old ≡ unwrap_or o 0 → LinksBoundNulls cells heads before → LinksBoundNulls front (set heads b old) rest
 bound_less cells front heads before rest cell b old x o e h c d s u l =
     let m : length (set heads b old) ≡ length heads = length-set heads b old in
     let v : old ≡ x = u ∙ ap (λ (p : Option ℕ). unwrap_or p 0) s in
@@ -184,14 +184,14 @@ module _ (m : ℕ) (cells : List Found) (null : NullId) where
       ]
 
   pub looks_first : (heads before : List ℕ) (b code : ℕ) → m ≡ length heads → b ≡ bucket m null → b < length heads → code ≡ get_or heads b 0
-      → AreBound cells heads before → Looks m cells null code
+      → LinksBoundNulls cells heads before → Looks m cells null code
   looks_first heads before b code d e h c l =
       let links = rw (← d) at l.linked in
       let many = many_buckets m cells in
       looks_below (length cells) code (c ∙ (links.head b h ∙ rw (e, many) refl)) (omega arith) (λ q k i. absurd (omega (arith, k, i)))
 
   pub looks_next : (heads before : List ℕ) (p code next : ℕ) → m ≡ length heads → code ≡ suc p → next ≡ get_or before p 0
-      → AreBound cells heads before → Looks m cells null code → ¬ ((found_at cells p).null ≡ null) → Looks m cells null next × (next < code)
+      → LinksBoundNulls cells heads before → Looks m cells null code → ¬ ((found_at cells p).null ≡ null) → Looks m cells null next × (next < code)
   looks_next heads before p code next d e c l k differs =
       let links = rw (← d) at l.linked in
       let h : p < length cells = omega (arith, e, k.within) in

@@ -67,10 +67,10 @@ in_stands T avoid f m other =
 -- ---- the answer
 
 -- each fixed null stands in the facts
-abbrev pub AreListed : ByNull → List Fact → Type 0
-AreListed fixed F = (n : NullId) (x : Value) → finite.get fixed n ≡ Some x → n ∈ nulls_in (values F)
+abbrev pub AllListed : ByNull → List Fact → Type 0
+AllListed fixed F = (n : NullId) (x : Value) → finite.get fixed n ≡ Some x → n ∈ nulls_in (values F)
 
-module _ (T : List TableRows) (fixed : ByNull) (avoid : Option Fact) (F : List Fact) (found : List Found) (listed : AreListed fixed F) where
+module _ (T : List TableRows) (fixed : ByNull) (avoid : Option Fact) (F : List Fact) (found : List Found) (listed : AllListed fixed F) where
   sought : FindsAll T [] fixed avoid F found → (h : List NullPair) → IsNullMap h
       → ((n : NullId) → Null n ∈ values F → given h n ≡ read T found n) → IsSought fixed avoid F (facts T) h
   sought ends h is same = record {
@@ -121,7 +121,7 @@ module _ (T : List TableRows) (fixed : ByNull) (avoid : Option Fact) (F : List F
 
 -- with facts that are gone
 pub answer_left : (T : List TableRows) (gone : List (List Bool)) (fixed : ByNull) (avoid : Option Fact) (F : List Fact) (found : List Found)
-    → AreListed fixed F → (r : Bool) → MatchBool r (FindsAll T gone fixed avoid F found) (NoMore T gone fixed avoid [] F)
+    → AllListed fixed F → (r : Bool) → MatchBool r (FindsAll T gone fixed avoid F found) (NoMore T gone fixed avoid [] F)
     → IsTrue r ↔ Reaches T gone fixed avoid F
 answer_left T gone fixed avoid F found listed true h =
     let g = read_gives T fixed found (read T found) h.good (λ n x e. h.whole n (listed n x e)) (λ n m. refl) in
@@ -131,7 +131,7 @@ answer_left T gone fixed avoid F found listed false h = (
   (λ w. absurd (h w.0 (record { fixed_values = w.1; cell_values = λ b m. elim m [ ] }) w.2)),
 )
 
-pub answer_found : (T : List TableRows) (fixed : ByNull) (avoid : Option Fact) (F : List Fact) (found : List Found) → AreListed fixed F
+pub answer_found : (T : List TableRows) (fixed : ByNull) (avoid : Option Fact) (F : List Fact) (found : List Found) → AllListed fixed F
     → (r : Bool) → MatchBool r (FindsAll T [] fixed avoid F found) (NoMore T [] fixed avoid [] F) → OnTrue r (IsNullAssignment T fixed avoid F found)
 answer_found T fixed avoid F found listed true h = is_answer T fixed avoid F found listed h
 answer_found T fixed avoid F found listed false h = tt

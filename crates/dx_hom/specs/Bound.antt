@@ -26,12 +26,12 @@ buckets_of m cells = map (λ (b : Found). bucket m b.null) cells
 -- heads has for each bucket one more than its last place,
 -- before for each place one more than the place before it in its bucket;
 -- 0 is none
-pub record AreLinked (buckets heads before : List ℕ) : Type 0 where
+pub record LinksBuckets (buckets heads before : List ℕ) : Type 0 where
   pub many : length before ≡ length buckets
   pub head : (b : ℕ) → b < length heads → slice_index heads b ≡ last_code b buckets (length buckets)
   pub earlier : (p : ℕ) → p < length buckets → slice_index before p ≡ last_code (slice_index buckets p) buckets p
 
 -- there is a bucket at least, and the links are those of the nulls that were found
-pub record AreBound (cells : List Found) (heads before : List ℕ) : Type 0 where
+pub record LinksBoundNulls (cells : List Found) (heads before : List ℕ) : Type 0 where
   pub some : 0 < length heads
-  pub linked : AreLinked (buckets_of (length heads) cells) heads before
+  pub linked : LinksBuckets (buckets_of (length heads) cells) heads before

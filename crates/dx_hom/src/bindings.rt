@@ -22,14 +22,14 @@ pub(crate) struct Bindings {
 
 impl Model for Bindings {
     ghost use Rattle.std.specs.Prelude.{◌≤◌, vec_capacity};
-    ghost use Rattle.dx_hom.specs.Bound.{AreBound, BindingState};
+    ghost use Rattle.dx_hom.specs.Bound.{LinksBoundNulls, BindingState};
 
     ghost Value = { BindingState };
 
     ghost view = { λ b. record { room = b.room; cells = b.cells.items } };
 
     ghost invariant = { λ b. (b.room ≤ vec_capacity b.cells) × (b.room ≤ vec_capacity b.before)
-        × AreBound b.cells.items b.heads.items b.before.items };
+        × LinksBoundNulls b.cells.items b.heads.items b.before.items };
 }
 
 // The bucket of a null among so many.

@@ -18,8 +18,8 @@ use Rattle.dx_base.specs.Texts.{Text}
 use Rattle.dx_base.proofs.Lists.{to_zip, from_zip}
 use Rattle.dx_base.proofs.Options.{nothing, none_known}
 use Rattle.dx_instance.specs.Cells.{NumberTable}
-use Rattle.dx_instance.specs.Numbers.{AreDistinctValues, value_of}
-use Rattle.dx_instance.specs.Shown.{AreBelow, PartsFit, numbers_of_table, shown, shown_row, shown_tables}
+use Rattle.dx_instance.specs.Numbers.{ValuesDiffer, value_of}
+use Rattle.dx_instance.specs.Shown.{NumbersBelow, PartsFit, numbers_of_table, shown, shown_row, shown_tables}
 use Rattle.dx_instance.specs.Stored.{TableRows, facts, rows_of, table_at, widths}
 use Rattle.dx_instance.proofs.NumberFacts.{there_at}
 use Rattle.dx_instance.proofs.ShownFacts.{is_shown, number_same}
@@ -36,7 +36,7 @@ use Rattle.dx_implies.specs.Asking.{HasNowhere, IsNowhere, AtomFitsTable, SaysAt
 
 -- ---- cells and terms
 
-module _ (S : List Value) (apart : AreDistinctValues S) (freeze : ℕ → Text) where
+module _ (S : List Value) (apart : ValuesDiffer S) (freeze : ℕ → Text) where
   number_says : (values : ℕ → Value) (c : Cell) (t : Term) (n : ℕ) → SaysCell S freeze c t → n < length S
       → value_of S n ≡ cell_value freeze values c → n ≡ number_under (λ v. number_of S (values v)) t
   number_says values (Var x) t n s h e = rw s.1 (number_same S n s.0 apart h s.2 (e ∙ sym s.3))
@@ -44,7 +44,7 @@ module _ (S : List Value) (apart : AreDistinctValues S) (freeze : ℕ → Text) 
   number_says values (Lit x) t n s h e = rw s.1 (number_same S n s.0 apart h s.2 (e ∙ sym s.3))
 
   row_says : (values : ℕ → Value) (cells : List Cell) (terms : List Term) (r : List ℕ) → AllZip (SaysCell S freeze) cells terms
-      → AreBelow (length S) r → shown_row S r ≡ map (cell_value freeze values) cells
+      → NumbersBelow (length S) r → shown_row S r ≡ map (cell_value freeze values) cells
       → r ≡ map (number_under (λ v. number_of S (values v))) terms
   row_says values [] [] [] z w e = refl
   row_says values [] [] (n ∷ r) z w e = cc e
@@ -96,7 +96,7 @@ module _ (S : List Value) (ts : List NumberTable) (fit : PartsFit S ts) (freeze 
   table_there : (t : ℕ) → t < length I → t < length ts
   table_there t h = let l : length I ≡ length ts = length-map ts (shown S) in subst (λ (n : ℕ). t < n) l h
 
-  below : (t : ℕ) (r : List ℕ) → t < length ts → r ∈ (numbers_of_table ts t).rows → AreBelow (length S) r
+  below : (t : ℕ) (r : List ℕ) → t < length ts → r ∈ (numbers_of_table ts t).rows → NumbersBelow (length S) r
   below t r h m = (fit.each (numbers_of_table ts t) (in_at ts t (record { width = 0; rows = [] }) h)).within r m
 
   -- an atom of a conclusion, and what says it

@@ -28,7 +28,7 @@ use Rattle.dx_instance.specs.Stored.{TableRows, facts, rows_of}
 use Rattle.dx_instance.proofs.StoredFacts.{row_from_fact}
 use Rattle.dx_tgd.specs.Counting.{canonical_cells}
 use Rattle.dx_tgd.proofs.Numbers.{cells_more}
-use Rattle.dx_implies.specs.Bounds.{AreThere, HasFewTexts, MakeFewCells, MakesFewCells}
+use Rattle.dx_implies.specs.Bounds.{AtomsThere, HasFewTexts, MakeFewCells, MakesFewCells}
 use Rattle.dx_implies.specs.Laws.{IsPlainRule}
 use Rattle.dx_implies.specs.Near.{has_row, is_near}
 use Rattle.dx_implies.proofs.Asked.{cell_somewhere}
@@ -113,7 +113,7 @@ length_all f n (x ∷ xs) e =
 record AreAmong (I : List TableRows) (atoms : List Atom) (xs : List ℕ) (n : ℕ) : Type 0 where
   tuples : List Tuple
   few : length tuples ≤ n
-  among : (f : ℕ → Text) → AreThere I atoms f → map f xs ∈ tuples
+  among : (f : ℕ → Text) → AtomsThere I atoms f → map f xs ∈ tuples
 
 tuples_of : (I : List TableRows) (atoms : List Atom) (n : ℕ) (xs : List ℕ) → Each xs (λ x. HasFewTexts I atoms x n) → AreAmong I atoms xs (n ^ length xs)
 tuples_of I atoms n [] h = record { tuples = [] ∷ []; few = simp unary_clauses (omega arith); among = λ f there. here refl }

@@ -12,14 +12,14 @@ use Rattle.dx_tgd.specs.Counting.{canonical_cells}
 use Rattle.dx_implies.specs.Near.{is_near}
 
 -- with these texts each of the atoms is a fact of the instance
-abbrev pub AreThere : List TableRows → List Atom → (ℕ → Text) → Type 0
-AreThere I atoms texts = Each atoms (λ a. premise_fact texts a ∈ facts I)
+abbrev pub AtomsThere : List TableRows → List Atom → (ℕ → Text) → Type 0
+AtomsThere I atoms texts = Each atoms (λ a. premise_fact texts a ∈ facts I)
 
 -- whenever the atoms are facts of the instance, the variable has one of n texts at most
 pub record HasFewTexts (I : List TableRows) (atoms : List Atom) (x n : ℕ) : Type 0 where
   pub texts : List Text
   pub few : length texts ≤ n
-  pub among : (f : ℕ → Text) → AreThere I atoms f → f x ∈ texts
+  pub among : (f : ℕ → Text) → AtomsThere I atoms f → f x ∈ texts
 
 -- the rule makes n canonical cells at most on the instance
 abbrev pub MakesFewCells : List TableRows → Rule → ℕ → Type 0

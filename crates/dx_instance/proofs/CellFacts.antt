@@ -11,7 +11,7 @@ use Rattle.std.proofs.lemmas.List.Quantifiers.{all_pairs_push}
 use Rattle.dx_base.specs.Members.{◌∈◌, here, there, Each}
 use Rattle.dx_base.proofs.Members.{from_append, in_at}
 use Rattle.dx_instance.specs.Cells.{NumberTable, NumbersAscend, rows_of_cells, numbers_at}
-use Rattle.dx_instance.specs.Shown.{AreBelow, renumbered}
+use Rattle.dx_instance.specs.Shown.{NumbersBelow, renumbered}
 use Rattle.dx_instance.proofs.TableFacts.{numbers_cmp}
 
 pub length_rows : (n w : ℕ) (cells : List ℕ) → length (rows_of_cells n w cells) ≡ n
@@ -57,7 +57,7 @@ in_rows (suc n) w cells i x e h q = elim (cases_lt i w) [
       (r.0, there r.1, r.2)
 ]
 
-pub cell_below : (t : NumberTable) (n w : ℕ) (cells : List ℕ) (i x b : ℕ) → ◌≡◌ {A = NumberTable} (record { width = w; rows = rows_of_cells n w cells }) t → length cells ≡ n * w → Each t.rows (AreBelow b) → i < length cells → x ≡ get_or cells i x → x < b
+pub cell_below : (t : NumberTable) (n w : ℕ) (cells : List ℕ) (i x b : ℕ) → ◌≡◌ {A = NumberTable} (record { width = w; rows = rows_of_cells n w cells }) t → length cells ≡ n * w → Each t.rows (NumbersBelow b) → i < length cells → x ≡ get_or cells i x → x < b
 cell_below t n w cells i x b v e f h q =
     let r = in_rows n w cells i x e h q in
     f r.0 (subst (λ (u : NumberTable). r.0 ∈ u.rows) v r.1) x r.2
@@ -74,7 +74,7 @@ from_drop (suc n) [] m = elim m [ ]
 from_drop (suc n) (y ∷ xs) m = there (from_drop n xs m)
 
 -- one cell more below a bound
-pub below_one_more : (cells : List ℕ) (i b c : ℕ) → i < length cells → b ≤ c → get_or cells i 0 < c → AreBelow b (take i cells) → AreBelow c (take (i + 1) cells)
+pub below_one_more : (cells : List ℕ) (i b c : ℕ) → i < length cells → b ≤ c → get_or cells i 0 < c → NumbersBelow b (take i cells) → NumbersBelow c (take (i + 1) cells)
 below_one_more cells i b c h up last f x m = elim (from_append (take i cells) (subst (λ (l : List ℕ). x ∈ l) (take_more cells i 0 h) m)) [
   | inl k ↦ let l = f x k in omega (arith, l, up)
   | inr (here e) ↦ rw (← e) last
@@ -82,7 +82,7 @@ below_one_more cells i b c h up last f x m = elim (from_append (take i cells) (s
 ]
 
 -- what holds of all cells holds of the cells of each row
-pub rows_below : (n w b : ℕ) (cells : List ℕ) → AreBelow b cells → Each (rows_of_cells n w cells) (AreBelow b)
+pub rows_below : (n w b : ℕ) (cells : List ℕ) → NumbersBelow b cells → Each (rows_of_cells n w cells) (NumbersBelow b)
 rows_below zero w b cells f r m = elim m [ ]
 rows_below (suc n) w b cells f r (here e) = rw (← e) (λ x h. f x (from_take w cells h))
 rows_below (suc n) w b cells f r (there m) = rows_below n w b (drop w cells) (λ x h. f x (from_drop w cells h)) r m

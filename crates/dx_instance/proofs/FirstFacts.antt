@@ -11,8 +11,8 @@ use Rattle.dx_model.proofs.Orders.{value_total}
 use Rattle.dx_base.specs.Members.{Each, ◌∈◌, here, there}
 use Rattle.dx_base.proofs.Members.{contains_from_in, from_append, from_map, in_at}
 use Rattle.dx_instance.specs.Numbers.{ValuesAscend, IsOrdering, value_of}
-use Rattle.dx_instance.specs.Keys.{AreSorted, IsKeyIn, IsRepeat, IsRise, NumbersAreKeyed, places_of}
-use Rattle.dx_instance.specs.Ranks.{AreFirstKeys, AreDistinct, AreRankFirsts, HasRank}
+use Rattle.dx_instance.specs.Keys.{SortsNumbers, IsKeyIn, IsRepeat, IsRise, NumbersAreKeyed, places_of}
+use Rattle.dx_instance.specs.Ranks.{DistinctKeys, DistinctRanks, RankFirsts, HasRank}
 use Rattle.dx_instance.proofs.RankFacts.{number_read, same_or_not}
 
 -- one number more has a rank, and the others keep theirs
@@ -38,7 +38,7 @@ places_many : (F : List (ℕ × ℕ)) → length (places_of F) ≡ length F
 places_many F = length-map F (λ (q : ℕ × ℕ). q.1)
 
 -- a key whose value is above all goes last
-ascending_more : (S : List Value) (F : List (ℕ × ℕ)) (k : ℕ × ℕ) → AreFirstKeys S F → IsKeyIn S k → ((j : ℕ) → j < length F → value_cmp (value_of S (get_or (places_of F) j 0)) (value_of S k.1) ≡ Less) → AreFirstKeys S (F ++ k ∷ [])
+ascending_more : (S : List Value) (F : List (ℕ × ℕ)) (k : ℕ × ℕ) → DistinctKeys S F → IsKeyIn S k → ((j : ℕ) → j < length F → value_cmp (value_of S (get_or (places_of F) j 0)) (value_of S k.1) ≡ Less) → DistinctKeys S (F ++ k ∷ [])
 ascending_more S F k a p above = record { ascend = ascend; below = below; keyed = keyed }
   where
     V : List Value
@@ -73,7 +73,7 @@ ascending_more S F k a p above = record { ascend = ascend; below = below; keyed 
     ]
 
 -- the place of the last key
-last_place : (S : List Value) (numbers : List ℕ) (F : List (ℕ × ℕ)) (R : List ℕ) (i : ℕ) → AreRankFirsts S numbers F R i → IsRise S numbers i → (j : ℕ) → j < length F → value_cmp (value_of S (get_or (places_of F) j 0)) (value_of S (get_or numbers i 0)) ≡ Less
+last_place : (S : List Value) (numbers : List ℕ) (F : List (ℕ × ℕ)) (R : List ℕ) (i : ℕ) → RankFirsts S numbers F R i → IsRise S numbers i → (j : ℕ) → j < length F → value_cmp (value_of S (get_or (places_of F) j 0)) (value_of S (get_or numbers i 0)) ≡ Less
 last_place S numbers F R i f rise j h =
     let some : 0 < i = omega (arith, h, f.fewer) in
     let l = f.last some in
@@ -93,7 +93,7 @@ last_place S numbers F R i f rise j h =
 
 -- the first key of a value
 pub first_more : (S : List Value) (K F G : List (ℕ × ℕ)) (R : List ℕ) (i : ℕ) → i < length K → G ≡ F ++ get_or K i (0, 0) ∷ [] → IsRise S (places_of K) i → IsKeyIn S (get_or K i (0, 0))
-    → AreRankFirsts S (places_of K) F R i → AreRankFirsts S (places_of K) G (set R (get_or K i (0, 0)).1 (length G - 1)) (i + 1)
+    → RankFirsts S (places_of K) F R i → RankFirsts S (places_of K) G (set R (get_or K i (0, 0)).1 (length G - 1)) (i + 1)
 first_more S K F G R i h e rise p f = rw e (record {
   fewer = omega (arith, f.fewer, long);
   many = length-set R k.1 (length (F ++ k ∷ []) - 1) ∙ f.many;
@@ -124,7 +124,7 @@ first_more S K F G R i h e rise p f = rw e (record {
 
 -- another key of the last value
 pub repeat_more : (S : List Value) (K F : List (ℕ × ℕ)) (R : List ℕ) (i : ℕ) → i < length K → IsRepeat S (places_of K) i → IsKeyIn S (get_or K i (0, 0))
-    → AreRankFirsts S (places_of K) F R i → AreRankFirsts S (places_of K) F (set R (get_or K i (0, 0)).1 (length F - 1)) (i + 1)
+    → RankFirsts S (places_of K) F R i → RankFirsts S (places_of K) F (set R (get_or K i (0, 0)).1 (length F - 1)) (i + 1)
 repeat_more S K F R i h again p f = record {
   fewer = omega (arith, f.fewer);
   many = length-set R (get_or K i (0, 0)).1 (length F - 1) ∙ f.many;
@@ -143,7 +143,7 @@ repeat_more S K F R i h again p f = record {
     one = omega arith
 
 -- no key yet
-pub no_firsts : (S : List Value) (numbers R : List ℕ) → length R ≡ length S → AreRankFirsts S numbers [] R 0
+pub no_firsts : (S : List Value) (numbers R : List ℕ) → length R ≡ length S → RankFirsts S numbers [] R 0
 no_firsts S numbers R m = record {
   fewer = omega arith;
   many = m;
@@ -153,7 +153,7 @@ no_firsts S numbers R m = record {
 }
 
 -- all keys
-pub all_firsts : (S : List Value) (K F : List (ℕ × ℕ)) (R : List ℕ) (i : ℕ) → i ≡ length K → AreSorted S (places_of K) → AreRankFirsts S (places_of K) F R i → AreDistinct S F R
+pub all_firsts : (S : List Value) (K F : List (ℕ × ℕ)) (R : List ℕ) (i : ℕ) → i ≡ length K → SortsNumbers S (places_of K) → RankFirsts S (places_of K) F R i → DistinctRanks S F R
 all_firsts S K F R i e s f = record {
   fewer = omega (arith, f.fewer, e, many);
   many = f.many;
@@ -168,7 +168,7 @@ all_firsts S K F R i e s f = record {
     many = sym (places_many K) ∙ s.many
 
 -- what the keys and the ranks come to
-pub ordering : (S : List Value) (F : List (ℕ × ℕ)) (R : List ℕ) → AreDistinct S F R → IsOrdering S (map (value_of S) (places_of F)) R
+pub ordering : (S : List Value) (F : List (ℕ × ℕ)) (R : List ℕ) → DistinctRanks S F R → IsOrdering S (map (value_of S) (places_of F)) R
 ordering S F R d = record {
   ascend = d.keys.ascend;
   fewer = omega (arith, d.fewer, long);

@@ -4,7 +4,7 @@ use Rattle.std.specs.Prelude.{slice_index}
 use Rattle.std.proofs.lemmas.Bool.{cases_lt}
 use Rattle.std.proofs.lemmas.List.{get_or-drop}
 use Rattle.std.proofs.Math.Nat.{pow-suc, pow-zero}
-use Rattle.dx_instance.specs.Keys.{packed, AreSmall}
+use Rattle.dx_instance.specs.Keys.{packed, AllSmall}
 
 drop_none : (m : ℕ) (xs : List ℕ) → xs ≡ [] → drop m xs ≡ []
 drop_none zero xs e = e
@@ -43,7 +43,7 @@ front b (suc n) p (x ∷ xs) = front_more b n p x (packed b (suc n) p (x ∷ xs)
 pub halves : (text : List ℕ) → packed 256 16 0 text ≡ packed 256 8 0 text * 2 ^ 64 + packed 256 8 0 (drop 8 text)
 halves text = split 256 8 8 16 0 text refl ∙ front 256 8 (packed 256 8 0 text) (drop 8 text)
 
-pub small_halves : (text : List ℕ) → AreSmall 256 8 text → AreSmall 256 8 (drop 8 text) → AreSmall 256 16 text
+pub small_halves : (text : List ℕ) → AllSmall 256 8 text → AllSmall 256 8 (drop 8 text) → AllSmall 256 16 text
 small_halves text s t i h = elim (cases_lt i 8) [
   | inl l ↦ s i l
   | inr l ↦

@@ -10,7 +10,7 @@ use Rattle.dx_base.specs.Members.{Each, here, there}
 use Rattle.dx_base.proofs.Members.{in_at}
 use Rattle.dx_instance.specs.Numbers.{value_of}
 use Rattle.dx_instance.specs.Keys.{places_of}
-use Rattle.dx_instance.specs.Ranks.{AreEnds, LiesInBuffer, joined_texts, text_of_value, texts_before}
+use Rattle.dx_instance.specs.Ranks.{EndsOfTexts, LiesInBuffer, joined_texts, text_of_value, texts_before}
 use Rattle.dx_instance.proofs.RankFacts.{number_read}
 
 joined_more : (vs : List Value) (v : Value) → joined_texts (vs ++ v ∷ []) ≡ joined_texts vs ++ text_of_value v
@@ -44,7 +44,7 @@ key_below n keys i f h =
 
 -- one end more
 pub ends_more : (S : List Value) (keys : List (ℕ × ℕ)) (ends new : List ℕ) (i e : ℕ) → new ≡ ends ++ e ∷ [] → e ≡ length (texts_before S keys (i + 1)) → IsUtf8 (text_of_value (value_of S (key_at keys i).1))
-    → AreEnds S keys ends i → AreEnds S keys new (i + 1)
+    → EndsOfTexts S keys ends i → EndsOfTexts S keys new (i + 1)
 ends_more S keys ends new i e n q u a = rw n (record {
   many = length_push ends e ∙ ap (λ (m : ℕ). m + 1) a.many;
   at = below_more _ _ (λ k h. let g = get_or_append_left ends (e ∷ []) 0 k (omega (arith, h, a.many)) in rw g (a.at k h)) (let g = get_or_push ends e 0 i a.many in rw g q);
@@ -69,7 +69,7 @@ split_at S keys i h =
 
 -- where the text of the next value lies in the buffer
 pub lies_next : (S : List Value) (keys : List (ℕ × ℕ)) (ends : List ℕ) (i start : ℕ) (buffer : List ℕ) → i < length keys → buffer ≡ joined_texts (values_at S keys) → start ≡ length (texts_before S keys i)
-    → AreEnds S keys ends (length keys) → LiesInBuffer buffer start (get_or ends i 0) (text_of_value (value_of S (key_at keys i).1))
+    → EndsOfTexts S keys ends (length keys) → LiesInBuffer buffer start (get_or ends i 0) (text_of_value (value_of S (key_at keys i).1))
 lies_next S keys ends i start buffer h b s a =
     let v = value_of S (key_at keys i).1 in
     let t = text_of_value v in

@@ -11,10 +11,10 @@ use Rattle.std.proofs.lemmas.List.{length-map, get_or-map, get_or_default, get_o
 use Rattle.std.proofs.lemmas.List.Sorted.{All-permutation, IsPermutation-map}
 use Rattle.std.proofs.Math.Nat.{mul-le-mul_right, pow-suc, pow-le-pow_right}
 use Rattle.std.proofs.lemmas.Cmp.{nat_list_cmp_total}
-use Rattle.dx_instance.specs.Cells.{AreInOrder, numbers_at}
+use Rattle.dx_instance.specs.Cells.{PlacesInOrder, numbers_at}
 use Rattle.dx_instance.proofs.OrderFacts.{places_ordered}
-use Rattle.dx_instance.specs.Keys.{packed, AreSmall, DigitsFit, places_of, AreKeyed, RowsAreKeyed}
-use Rattle.dx_instance.specs.Shown.{AreBelow}
+use Rattle.dx_instance.specs.Keys.{packed, AllSmall, DigitsFit, places_of, KeysOfFirst, RowsAreKeyed}
+use Rattle.dx_instance.specs.Shown.{NumbersBelow}
 use Rattle.dx_base.specs.Members.{here, there}
 use Rattle.dx_base.proofs.Ranges.{nat_self, nat_less}
 use Rattle.dx_instance.proofs.TableFacts.{numbers_cmp, numbers_exact}
@@ -35,7 +35,7 @@ times_mono : (b p q : ℕ) → p ≤ q → p * b ≤ q * b
 times_mono b p q h = mul-le-mul_right b h
 
 -- a lower number in front gives a lower key
-lower : (b n p q : ℕ) (xs ys : List ℕ) → AreSmall b n xs → p < q → packed b n p xs ≤ packed b n q ys
+lower : (b n p q : ℕ) (xs ys : List ℕ) → AllSmall b n xs → p < q → packed b n p xs ≤ packed b n q ys
 lower b zero p q xs ys s h = omega arith
 lower b (suc n) p q [] [] s h = let t = times_mono b (p + 1) q (omega arith) in let z = s 0 (omega arith) in lower b n (p * b) (q * b) [] [] (λ i k. z) (omega (arith, t, z))
 lower b (suc n) p q [] (y ∷ ys) s h = let t = times_mono b (p + 1) q (omega arith) in let z = s 0 (omega arith) in lower b n (p * b) (q * b + y) [] ys (λ i k. z) (omega (arith, t, z))
@@ -55,7 +55,7 @@ least b (suc n) p (y ∷ ys) = elim (cases_lt 0 y) [
     raised (suc m) u v k = raised m (u * b) (v * b) (times_mono b u v k)
 
 -- the key of a lower list is not higher
-pub rises : (b n p : ℕ) (xs ys : List ℕ) → AreSmall b n xs → numbers_cmp xs ys ≡ Less → packed b n p xs ≤ packed b n p ys
+pub rises : (b n p : ℕ) (xs ys : List ℕ) → AllSmall b n xs → numbers_cmp xs ys ≡ Less → packed b n p xs ≤ packed b n p ys
 rises b zero p xs ys s h = omega arith
 rises b (suc n) p [] ys s h = least b (suc n) p ys
 rises b (suc n) p (x ∷ xs) [] s h = absurd (cc h)
@@ -81,7 +81,7 @@ pub record IsKeyOf {X : Type 0} (at : ℕ → X) (key : X → ℕ) (Small : X �
   pub key_is : k.0 ≡ key (at k.1)
   pub small : Small (at k.1)
 
-pub all_keys : {X : Type 0} (at : ℕ → X) (key : X → ℕ) (Small : X → Type 0) (ks : List (ℕ × ℕ)) (n : ℕ) → AreKeyed at key Small ks n → All (IsKeyOf at key Small) ks
+pub all_keys : {X : Type 0} (at : ℕ → X) (key : X → ℕ) (Small : X → Type 0) (ks : List (ℕ × ℕ)) (n : ℕ) → KeysOfFirst at key Small ks n → All (IsKeyOf at key Small) ks
 all_keys at key Small ks n a k d h =
     let b : k < n = omega (arith, h, a.many) in
     let same = get_or_default ks k d (0, 0) h in
@@ -90,7 +90,7 @@ all_keys at key Small ks n a k d h =
     record { key_is = ap (λ (q : ℕ × ℕ). q.0) same ∙ rw p one.key_is; small = rw p one.small }
 
 -- one key more
-pub keyed_more : {X : Type 0} (at : ℕ → X) (key : X → ℕ) (Small : X → Type 0) (keys new : List (ℕ × ℕ)) (i k : ℕ) → length keys ≡ i → new ≡ keys ++ (k, i) ∷ [] → k ≡ key (at i) → Small (at i) → AreKeyed at key Small keys i → AreKeyed at key Small new (i + 1)
+pub keyed_more : {X : Type 0} (at : ℕ → X) (key : X → ℕ) (Small : X → Type 0) (keys new : List (ℕ × ℕ)) (i k : ℕ) → length keys ≡ i → new ≡ keys ++ (k, i) ∷ [] → k ≡ key (at i) → Small (at i) → KeysOfFirst at key Small keys i → KeysOfFirst at key Small new (i + 1)
 keyed_more at key Small keys new i k l n e s a = rw n (record {
   many = length_push keys (k, i) ∙ ap (λ (m : ℕ). m + 1) l;
   all = below_more _ _ (λ j h. let g = get_or_append_left keys ((k, i) ∷ []) (0, 0) j (omega (arith, h, l)) in rw g (a.all j h)) (rw last (record { key_is = e; place_is = refl; small = s }));
@@ -144,18 +144,18 @@ abbrev pub row_key_lt : List (List ℕ) → (ℕ × ℕ) → (ℕ × ℕ) → Bo
 row_key_lt rows a b = is_lt (by_key numbers_cmp (numbers_at rows) a b)
 
 module _ (b n : ℕ) where
-  row_rises : (x y : List ℕ) → AreSmall b n x → AreSmall b n y → numbers_cmp x y ≡ Less → packed b n 0 x ≤ packed b n 0 y
+  row_rises : (x y : List ℕ) → AllSmall b n x → AllSmall b n y → numbers_cmp x y ≡ Less → packed b n 0 x ≤ packed b n 0 y
   row_rises x y s t h = rises b n 0 x y s h
 
   pub row_key_total : (rows : List (List ℕ)) → IsTotalOrder (by_key numbers_cmp (numbers_at rows))
-  row_key_total rows = by_key_total numbers_cmp nat_list_cmp_total numbers_exact (numbers_at rows) (packed b n 0) (AreSmall b n) row_rises
+  row_key_total rows = by_key_total numbers_cmp nat_list_cmp_total numbers_exact (numbers_at rows) (packed b n 0) (AllSmall b n) row_rises
 
   -- what a sort of the keyed places comes to
-  pub keys_ordered : (rows : List (List ℕ)) (ks qs : List (ℕ × ℕ)) → RowsAreKeyed b n rows ks (length rows) → IsPermutation ks qs → IsSortedBy (row_key_lt rows) qs → AreInOrder rows (places_of qs)
+  pub keys_ordered : (rows : List (List ℕ)) (ks qs : List (ℕ × ℕ)) → RowsAreKeyed b n rows ks (length rows) → IsPermutation ks qs → IsSortedBy (row_key_lt rows) qs → PlacesInOrder rows (places_of qs)
   keys_ordered rows ks qs a p s =
       places_ordered rows (places_of ks) (places_of qs) (length-map ks (λ (k : ℕ × ℕ). k.1) ∙ a.many) (λ k h. get_or-map (λ (q : ℕ × ℕ). q.1) ks k (0, 0) 0 (omega (arith, h, a.many)) ∙ (a.all k h).place_is)
-      (IsPermutation-map (λ (k : ℕ × ℕ). k.1) ks qs p) (keys_sorted numbers_cmp nat_list_cmp_total numbers_exact (numbers_at rows) (packed b n 0) (AreSmall b n) row_rises qs
-      (All-permutation (IsKeyOf (numbers_at rows) (packed b n 0) (AreSmall b n)) ks qs p (all_keys (numbers_at rows) (packed b n 0) (AreSmall b n) ks (length rows) a)) s)
+      (IsPermutation-map (λ (k : ℕ × ℕ). k.1) ks qs p) (keys_sorted numbers_cmp nat_list_cmp_total numbers_exact (numbers_at rows) (packed b n 0) (AllSmall b n) row_rises qs
+      (All-permutation (IsKeyOf (numbers_at rows) (packed b n 0) (AllSmall b n)) ks qs p (all_keys (numbers_at rows) (packed b n 0) (AllSmall b n) ks (length rows) a)) s)
 
 pub place_read : (keys : List (ℕ × ℕ)) (i : ℕ) (k : ℕ × ℕ) → i < length (places_of keys) → k ≡ get_or keys i k → k.1 ≡ get_or (places_of keys) i 0
 place_read keys i k h e = ap (λ (q : ℕ × ℕ). q.1) e ∙ sym (get_or-map (λ (q : ℕ × ℕ). q.1) keys i k 0 (omega (arith, h, length-map keys (λ (q : ℕ × ℕ). q.1))))
@@ -196,15 +196,15 @@ pub byte_fits : (i key byte : ℕ) → i < 8 → key < 256 ^ i → byte < 256 �
 byte_fits i key byte h b c = digit_fits 256 8 i key byte bytes_fit h b c
 
 -- numbers that are all below a bound, and 0 after them
-pub below_small : (b n : ℕ) (xs : List ℕ) → 0 < b → AreBelow b xs → AreSmall b n xs
+pub below_small : (b n : ℕ) (xs : List ℕ) → 0 < b → NumbersBelow b xs → AllSmall b n xs
 below_small b n xs z a i h = at xs i a
   where
-    at : (ys : List ℕ) (k : ℕ) → AreBelow b ys → slice_index ys k < b
+    at : (ys : List ℕ) (k : ℕ) → NumbersBelow b ys → slice_index ys k < b
     at [] k f = z
     at (y ∷ ys) zero f = f y (here refl)
     at (y ∷ ys) (suc k) f = at ys k (λ x m. f x (there m))
 
-pub below_more_bound : (b c : ℕ) (xs : List ℕ) → b ≤ c → AreBelow b xs → AreBelow c xs
+pub below_more_bound : (b c : ℕ) (xs : List ℕ) → b ≤ c → NumbersBelow b xs → NumbersBelow c xs
 below_more_bound b c xs h f x m = let l = f x m in omega (arith, l, h)
 
 -- the greater of two numbers

@@ -3,7 +3,7 @@ use Rattle.std.proofs.Common.{◌≡◌, ◌∙◌, ◌+◌, ◌<◌, ◌^◌, �
 use Rattle.std.proofs.lemmas.List.{length-append, get_or_append_left, get_or-append-add, get_or_default, append-nil, append_assoc}
 use Rattle.dx_model.specs.declared.values.Value.{Value}
 use Rattle.dx_model.specs.declared.values.Value.TheVariants.{Const}
-use Rattle.dx_instance.specs.Numbers.{AreDistinctValues, ValuesAscend, value_of}
+use Rattle.dx_instance.specs.Numbers.{ValuesDiffer, ValuesAscend, value_of}
 use Rattle.dx_instance.proofs.RankFacts.{ascend_apart}
 
 -- each part of values in order is in order
@@ -46,7 +46,7 @@ in_parts xs ys zs = length-append (xs ++ ys) zs ∙ ap (λ (n : ℕ). n + length
 pub all_ordered : (xs ys zs : List Value) → ys ≡ [] → zs ≡ [] → xs ++ ys ++ zs ≡ xs
 all_ordered xs ys zs e f = ap (λ (l : List Value). xs ++ l ++ zs) e ∙ ap (λ (l : List Value). l ++ zs) (append-nil xs) ∙ ap (λ (l : List Value). xs ++ l) f ∙ append-nil xs
 
-pub ordered_fits : (xs ys zs : List Value) → ys ≡ [] → zs ≡ [] → ValuesAscend xs → length xs < 2 ^ 32 → ValuesAscend (xs ++ ys) × AreDistinctValues (xs ++ ys ++ zs) × (length (xs ++ ys ++ zs) < 2 ^ 32)
+pub ordered_fits : (xs ys zs : List Value) → ys ≡ [] → zs ≡ [] → ValuesAscend xs → length xs < 2 ^ 32 → ValuesAscend (xs ++ ys) × ValuesDiffer (xs ++ ys ++ zs) × (length (xs ++ ys ++ zs) < 2 ^ 32)
 ordered_fits xs ys zs e f up few =
     let first : xs ++ ys ≡ xs = ap (λ (l : List Value). xs ++ l) e ∙ append-nil xs in
     let whole = all_ordered xs ys zs e f in

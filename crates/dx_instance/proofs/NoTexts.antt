@@ -5,7 +5,7 @@ use Rattle.std.proofs.lemmas.Bool.{cases_Bool, eqb-true, false≢true}
 use Rattle.dx_model.specs.declared.values.NullId.{NullId}
 use Rattle.dx_model.specs.declared.values.Value.{Value}
 use Rattle.dx_model.specs.declared.values.Value.TheVariants.{Const, Null}
-use Rattle.dx_instance.specs.ValueText.{AreThreeNumerals, IsNoValueText, NullFits, ValueFits, const_text, null_text, value_text_of, question_mark, starts_with_question_mark}
+use Rattle.dx_instance.specs.ValueText.{ThreeNumerals, IsNoValueText, NullFits, ValueFits, const_text, null_text, value_text_of, question_mark, starts_with_question_mark}
 use Rattle.dx_instance.specs.Laws.{NoValueTexts}
 use Rattle.dx_instance.proofs.TextFacts.{tail-is}
 
@@ -20,7 +20,7 @@ pub marked_text : (t : List ℕ) → starts_with_question_mark t ≡ true → co
 marked_text t e = rw e refl
 
 -- three numerals after `?` are the text of a null
-null_said : (rest : List ℕ) → AreThreeNumerals rest → (n : NullId) × NullFits n × (null_text n ≡ question_mark ∷ rest)
+null_said : (rest : List ℕ) → ThreeNumerals rest → (n : NullId) × NullFits n × (null_text n ≡ question_mark ∷ rest)
 null_said rest t =
     let n : NullId = record { rule = t.is_first.0; var = t.is_second.0; row = t.is_third.0 } in
     let fits : NullFits n = record { rule = t.is_first.1; var = t.is_second.1; row = t.is_third.1 } in

@@ -21,7 +21,7 @@ use Rattle.dx_model.specs.Values.{value_cmp}
 use Rattle.dx_model.proofs.Orders.{value_total, value_exact}
 use Rattle.dx_base.specs.Members.{Each, ◌∈◌}
 use Rattle.dx_base.proofs.Members.{contains_from_in, in_from_contains, from_append, in_at, in_left, in_right}
-use Rattle.dx_instance.specs.Numbers.{AreDistinctValues, Extends, ValuesAscend, value_of}
+use Rattle.dx_instance.specs.Numbers.{ValuesDiffer, Extends, ValuesAscend, value_of}
 use Rattle.dx_instance.proofs.Equal.{value_eq, value_eq-Decides}
 
 pub same_value : (a b : Value) → cmp-value.it a b ≡ value_cmp a b
@@ -93,7 +93,7 @@ pub nowhere : (xs ks : List Value) (v : Value) → ¬ (v ∈ xs) → ¬ (v ∈ k
 nowhere xs ks v a b m = elim (from_append xs m) [ inl l ↦ a l | inr r ↦ b r ]
 
 -- one value more
-pub apart_more : (xs : List Value) (v : Value) → AreDistinctValues xs → ¬ (v ∈ xs) → AreDistinctValues (xs ++ v ∷ [])
+pub apart_more : (xs : List Value) (v : Value) → ValuesDiffer xs → ¬ (v ∈ xs) → ValuesDiffer (xs ++ v ∷ [])
 apart_more xs v a n i j d h k e = elim (cases_lt j (length xs)) [
   | inl l ↦ a i j d h l (sym (get_or_append_left xs (v ∷ []) d i (omega arith)) ∙ e ∙ get_or_append_left xs (v ∷ []) d j l)
   | inr l ↦
@@ -107,7 +107,7 @@ pub record Interned (old new : List Value) (v : Value) : Type 0 where
   pub there_stays : v ∈ old → new ≡ old
   pub fresh : ¬ (v ∈ old) → new ≡ old ++ v ∷ []
   pub grows : Extends old new
-  pub apart : AreDistinctValues old → AreDistinctValues new
+  pub apart : ValuesDiffer old → ValuesDiffer new
   pub few : length new ≤ length old + 1
 
 pub stays : (xs : List Value) → Extends xs xs
@@ -141,18 +141,18 @@ pub there_at : (xs : List Value) (i : ℕ) (v : Value) → i < length xs → val
 there_at xs i v h e = subst (λ (x : Value). x ∈ xs) e (in_at xs i (Const []) h)
 
 -- the values of a second part are apart
-pub apart_later : (xs ks : List Value) → AreDistinctValues (xs ++ ks) → AreDistinctValues ks
+pub apart_later : (xs ks : List Value) → ValuesDiffer (xs ++ ks) → ValuesDiffer ks
 apart_later xs ks a i j d h k e =
     a (length xs + i) (length xs + j) d (omega arith) (omega (arith, length-append xs ks)) (get_or-append-add xs ks i d ∙ e ∙ sym (get_or-append-add xs ks j d))
 
-not_taken : (xs : List Value) (i : ℕ) (v : Value) → AreDistinctValues xs → i < length xs → v ≡ get_or xs i v → ¬ (v ∈ take i xs)
+not_taken : (xs : List Value) (i : ℕ) (v : Value) → ValuesDiffer xs → i < length xs → v ≡ get_or xs i v → ¬ (v ∈ take i xs)
 not_taken xs i v a h e m =
     let at = contains_from_in m in
     let l : at.0 < i = omega (arith, at.1, length-take-le i xs (omega arith)) in
     a at.0 i v l h (sym (get_or-take i xs at.0 v l) ∙ at.2 ∙ e)
 
 -- one copy more in a set of copies
-pub copied_more : (xs keys new : List Value) (i : ℕ) (v w : Value) → AreDistinctValues xs → i < length xs → v ≡ get_or xs i v → w ≡ v → keys ≡ take i xs → new ≡ insert_key value_eq keys w → new ≡ take (i + 1) xs
+pub copied_more : (xs keys new : List Value) (i : ℕ) (v w : Value) → ValuesDiffer xs → i < length xs → v ≡ get_or xs i v → w ≡ v → keys ≡ take i xs → new ≡ insert_key value_eq keys w → new ≡ take (i + 1) xs
 copied_more xs keys new i v w a h e c k n =
     let gone : ¬ (w ∈ keys) = rw (c, k) (not_taken xs i v a h e) in
     let s = interned [] keys new w (λ m. elim m [ ]) n in
@@ -162,7 +162,7 @@ copied_more xs keys new i v w a h e c k n =
 pub record Pushed (old new : List Value) (v : Value) : Type 0 where
   pub is : new ≡ old ++ v ∷ []
   pub ascend : ValuesAscend old → ValuesAscend new
-  pub apart : AreDistinctValues old → AreDistinctValues new
+  pub apart : ValuesDiffer old → ValuesDiffer new
   pub few : length new ≡ length old + 1
 
 not_among_lower : (old : List Value) (v : Value) → Each old (λ x. value_cmp x v ≡ Less) → ¬ (v ∈ old)

@@ -7,22 +7,22 @@ use Rattle.dx_base.specs.Members.{◌∈◌, here, there, Each}
 use Rattle.dx_base.proofs.Members.{from_append}
 use Rattle.dx_instance.specs.Indexes.{IsColumnIndex, IsNextWithNumber}
 use Rattle.dx_instance.specs.Cells.{NumberTable, NumbersAscend, row_key, with_numbers}
-use Rattle.dx_instance.specs.Chains.{AreChains, AreTableParts}
+use Rattle.dx_instance.specs.Chains.{AreChains, TableParts}
 use Rattle.dx_instance.specs.declared.chains.Chains.{Chains}
 use Rattle.dx_instance.specs.declared.column_index.ColumnIndex.{ColumnIndex}
 use Rattle.dx_instance.proofs.IndexFacts.{no_index}
 use Rattle.dx_instance.proofs.TableFacts.{keys_more, take_stays}
 
-pub parts_none : (rows : List (List ℕ)) (c : Chains) (xs : List ColumnIndex) → rows ≡ [] → AreChains c [] → xs ≡ [] → AreTableParts 0 rows c xs
+pub parts_none : (rows : List (List ℕ)) (c : Chains) (xs : List ColumnIndex) → rows ≡ [] → AreChains c [] → xs ≡ [] → TableParts 0 rows c xs
 parts_none rows c xs e k x = rw e (record { some = omega arith; few = omega arith; ascend = λ i j d h b. absurd (omega arith); chained = k; indexed = no_index xs [] x })
 
-pub parts_sorted : (n : ℕ) (rows : List (List ℕ)) (c : Chains) (xs : List ColumnIndex) → n ≡ length rows → length rows < 2 ^ 32 → NumbersAscend rows → AreChains c [] → xs ≡ [] → AreTableParts n rows c xs
+pub parts_sorted : (n : ℕ) (rows : List (List ℕ)) (c : Chains) (xs : List ColumnIndex) → n ≡ length rows → length rows < 2 ^ 32 → NumbersAscend rows → AreChains c [] → xs ≡ [] → TableParts n rows c xs
 parts_sorted n rows c xs e few up k x =
     let none : drop n rows ≡ [] = nil_from_length (drop n rows) (omega (arith, e, length-drop n rows)) in
     record { some = omega (arith, e); few = few; ascend = rw (take_all n rows (omega (arith, e))) up; chained = rw none k; indexed = no_index xs rows x }
 
 -- a row more, at the end, and no index
-pub parts_more : (n : ℕ) (t u : NumberTable) (c d : Chains) (xs ys : List ColumnIndex) (row : List ℕ) → AreTableParts n t.rows c xs → u ≡ with_numbers t row → ((keys : List ℕ) → AreChains c keys → AreChains d (keys ++ row_key row ∷ [])) → length t.rows < 2 ^ 32 - 1 → ys ≡ [] → AreTableParts n u.rows d ys
+pub parts_more : (n : ℕ) (t u : NumberTable) (c d : Chains) (xs ys : List ColumnIndex) (row : List ℕ) → TableParts n t.rows c xs → u ≡ with_numbers t row → ((keys : List ℕ) → AreChains c keys → AreChains d (keys ++ row_key row ∷ [])) → length t.rows < 2 ^ 32 - 1 → ys ≡ [] → TableParts n u.rows d ys
 parts_more n t u c d xs ys row p e k room y = rw e (record {
   some = omega (arith, p.some, length-append t.rows (row ∷ []));
   few = omega (arith, room, length-append t.rows (row ∷ []));
@@ -32,11 +32,11 @@ parts_more n t u c d xs ys row p e k room y = rw e (record {
 })
 
 -- the same rows, and no index
-pub parts_same : (n : ℕ) (t u : NumberTable) (c d : Chains) (xs ys : List ColumnIndex) → AreTableParts n t.rows c xs → u ≡ t → ((keys : List ℕ) → AreChains c keys → AreChains d keys) → ys ≡ [] → AreTableParts n u.rows d ys
+pub parts_same : (n : ℕ) (t u : NumberTable) (c d : Chains) (xs ys : List ColumnIndex) → TableParts n t.rows c xs → u ≡ t → ((keys : List ℕ) → AreChains c keys → AreChains d keys) → ys ≡ [] → TableParts n u.rows d ys
 parts_same n t u c d xs ys p e k y = rw e (record { some = p.some; few = p.few; ascend = p.ascend; chained = k _ p.chained; indexed = no_index ys t.rows y })
 
 -- one index more
-pub parts_indexed : (n : ℕ) (rows : List (List ℕ)) (c : Chains) (xs ys : List ColumnIndex) (x : ColumnIndex) → AreTableParts n rows c xs → IsColumnIndex rows x → ys ≡ xs ++ x ∷ [] → AreTableParts n rows c ys
+pub parts_indexed : (n : ℕ) (rows : List (List ℕ)) (c : Chains) (xs ys : List ColumnIndex) (x : ColumnIndex) → TableParts n rows c xs → IsColumnIndex rows x → ys ≡ xs ++ x ∷ [] → TableParts n rows c ys
 parts_indexed n rows c xs ys x p i e = rw e (record { some = p.some; few = p.few; ascend = p.ascend; chained = p.chained; indexed = λ y m. elim (from_append xs m) [ inl l ↦ p.indexed y l | inr r ↦ last y r ] })
   where
     last : (y : ColumnIndex) → y ∈ (x ∷ []) → IsColumnIndex rows y

@@ -10,9 +10,9 @@ use Rattle.dx_model.specs.declared.values.Value.TheVariants.{Const}
 use Rattle.dx_model.specs.Tables.{cell, values_in}
 use Rattle.dx_instance.specs.Numbers.{value_of}
 use Rattle.dx_instance.specs.Cells.{NumberTable, numbers_at, with_numbers}
-use Rattle.dx_instance.specs.Firsts.{AreFirstParts, IsFirstOf, part_at}
+use Rattle.dx_instance.specs.Firsts.{PartsOfPlaces, IsFirstOf, part_at}
 use Rattle.dx_instance.specs.Places.{AreFirsts, IsFirstWith, row_at}
-use Rattle.dx_instance.specs.Shown.{AreBelow, PartsFit, shown_row, shown_tables}
+use Rattle.dx_instance.specs.Shown.{NumbersBelow, PartsFit, shown_row, shown_tables}
 use Rattle.dx_instance.specs.Stored.{TableRows, rows_of, table_at}
 use Rattle.dx_instance.specs.declared.firsts.Parts.{Parts}
 use Rattle.dx_instance.proofs.PlaceFacts.{read_row, width_read}
@@ -21,7 +21,7 @@ use Rattle.dx_instance.proofs.ShownFacts.{fits_in, is_shown, numbers_wide, place
 -- ---- one place more
 
 -- a part that is there: its first place
-pub first_there : (f : ℕ → List ℕ) (n k q : ℕ) (part : List ℕ) (parts : Parts) → f n ≡ part → AreFirstParts f n parts → k < length parts.rows.rows → numbers_at parts.rows.rows k ≡ part
+pub first_there : (f : ℕ → List ℕ) (n k q : ℕ) (part : List ℕ) (parts : Parts) → f n ≡ part → PartsOfPlaces f n parts → k < length parts.rows.rows → numbers_at parts.rows.rows k ≡ part
     → q ≡ get_or parts.places.items k q → IsFirstOf f n q
 first_there f n k q part parts e a h is at =
     let within : k < length parts.places.items = omega (arith, h, a.many) in
@@ -30,8 +30,8 @@ first_there f n k q part parts e a h is at =
       least = λ r l d. a.is_first k h r l (d ∙ (e ∙ sym is));
     })
 
-pub parts_there : (f : ℕ → List ℕ) (n k : ℕ) (part : List ℕ) (parts : Parts) → f n ≡ part → AreFirstParts f n parts → k < length parts.rows.rows → numbers_at parts.rows.rows k ≡ part
-    → AreFirstParts f (n + 1) parts
+pub parts_there : (f : ℕ → List ℕ) (n k : ℕ) (part : List ℕ) (parts : Parts) → f n ≡ part → PartsOfPlaces f n parts → k < length parts.rows.rows → numbers_at parts.rows.rows k ≡ part
+    → PartsOfPlaces f (n + 1) parts
 parts_there f n k part parts e a h is = record {
   many = a.many;
   few = omega (arith, a.few);
@@ -44,14 +44,14 @@ parts_there f n k part parts e a h is = record {
 }
 
 -- a part that is new: it has no place before this one
-pub first_new : (f : ℕ → List ℕ) (n : ℕ) (part : List ℕ) (parts : Parts) → f n ≡ part → AreFirstParts f n parts → ¬ (part ∈ parts.rows.rows) → IsFirstOf f n n
+pub first_new : (f : ℕ → List ℕ) (n : ℕ) (part : List ℕ) (parts : Parts) → f n ≡ part → PartsOfPlaces f n parts → ¬ (part ∈ parts.rows.rows) → IsFirstOf f n n
 first_new f n part parts e a new = record {
   same = refl;
   least = λ r l d. new (subst (λ (x : List ℕ). x ∈ parts.rows.rows) (d ∙ e) (a.kept r l));
 }
 
-pub parts_new : (f : ℕ → List ℕ) (n : ℕ) (part : List ℕ) (old new : Parts) → f n ≡ part → AreFirstParts f n old → ¬ (part ∈ old.rows.rows)
-    → new.rows.rows ≡ old.rows.rows ++ part ∷ [] → new.places.items ≡ old.places.items ++ n ∷ [] → AreFirstParts f (n + 1) new
+pub parts_new : (f : ℕ → List ℕ) (n : ℕ) (part : List ℕ) (old new : Parts) → f n ≡ part → PartsOfPlaces f n old → ¬ (part ∈ old.rows.rows)
+    → new.rows.rows ≡ old.rows.rows ++ part ∷ [] → new.places.items ≡ old.places.items ++ n ∷ [] → PartsOfPlaces f (n + 1) new
 parts_new f n part old new e a fresh rows places = record {
   many = let l = ap length rows ∙ length-append old.rows.rows (part ∷ []) in let m = ap length places ∙ length-append old.places.items (n ∷ []) in omega (arith, l, m, a.many);
   few = omega (arith, long, a.few);
@@ -94,7 +94,7 @@ added_new false old new part fresh is a = absurd (fresh is)
 
 -- ---- all places
 
-pub none_yet : (f : ℕ → List ℕ) (parts : Parts) → parts.rows.rows ≡ [] → parts.places.items ≡ [] → AreFirstParts f 0 parts
+pub none_yet : (f : ℕ → List ℕ) (parts : Parts) → parts.rows.rows ≡ [] → parts.places.items ≡ [] → PartsOfPlaces f 0 parts
 none_yet f parts rows places = record {
   many = ap length places ∙ sym (ap length rows);
   few = omega (arith, ap length rows);
@@ -122,7 +122,7 @@ part_shown S numbers (c ∷ columns) h =
     let rest = part_shown S numbers columns (λ x m. h x (there m)) in
     cc (one, rest)
 
-part_below : (n : ℕ) (numbers columns : List ℕ) → AreBelow n numbers → Each columns (λ c. c < length numbers) → AreBelow n (map (slice_index numbers) columns)
+part_below : (n : ℕ) (numbers columns : List ℕ) → NumbersBelow n numbers → Each columns (λ c. c < length numbers) → NumbersBelow n (map (slice_index numbers) columns)
 part_below n numbers [] b h x m = elim m [ ]
 part_below n numbers (c ∷ columns) b h x (here e) = subst (λ (y : ℕ). y < n) e (b (slice_index numbers c) (in_at numbers c 0 (h c (here refl))))
 part_below n numbers (c ∷ columns) b h x (there m) = part_below n numbers columns b (λ y k. h y (there k)) x m
@@ -140,7 +140,7 @@ module _ (S : List Value) (ts : List NumberTable) (I : List TableRows) (n : ℕ)
       let r = read_row S ts I n p t (numbers_at t.rows p) fits view here_is read h refl in
       ap (values_in columns) r.at ∙ part_shown S (numbers_at t.rows p) columns (inside p h)
 
-  below : (p : ℕ) → p < length (rows_of I n) → AreBelow (length S) (part_at t.rows columns p)
+  below : (p : ℕ) → p < length (rows_of I n) → NumbersBelow (length S) (part_at t.rows columns p)
   below p h =
       let r = read_row S ts I n p t (numbers_at t.rows p) fits view here_is read h refl in
       part_below (length S) (numbers_at t.rows p) columns r.below (inside p h)

@@ -21,7 +21,7 @@ use Rattle.dx_model.proofs.Before.{same_value-refl, same_value-true}
 use Rattle.dx_instance.specs.Stored.{TableRows, table_at, rows_of, FitsInstance}
 use Rattle.dx_instance.specs.Numbers.{value_of}
 use Rattle.dx_instance.specs.Cells.{NumberTable}
-use Rattle.dx_instance.specs.Shown.{AreBelow, PartsFit, Shows, shown_row, shown_tables}
+use Rattle.dx_instance.specs.Shown.{NumbersBelow, PartsFit, Shows, shown_row, shown_tables}
 use Rattle.dx_instance.specs.Places.{row_at, value_at}
 use Rattle.dx_instance.specs.Cells.{numbers_at}
 use Rattle.dx_instance.proofs.ShownFacts.{all_fit, table_within, place_within, fits_in, numbers_below, row_shown, is_shown, to_shown, from_shown}
@@ -74,7 +74,7 @@ shows_more S values numbers i n v h l e b w s =
 
 -- what is known of a row of numbers that was read
 pub record ReadRow (S : List Value) (ts : List NumberTable) (I : List TableRows) (n p : ℕ) (t : NumberTable) (row : List ℕ) : Type 0 where
-  pub below : AreBelow (length S) row
+  pub below : NumbersBelow (length S) row
   pub at : row_at I n p ≡ shown_row S row
 
 pub read_row : (S : List Value) (ts : List NumberTable) (I : List TableRows) (n p : ℕ) (t : NumberTable) (row : List ℕ) → PartsFit S ts → shown_tables S ts ≡ I → n < length I → t ≡ get_or ts n t → p < length (rows_of I n)

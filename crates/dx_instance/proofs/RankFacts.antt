@@ -13,9 +13,9 @@ use Rattle.dx_model.specs.Values.{value_cmp}
 use Rattle.dx_model.proofs.Orders.{value_total, value_exact}
 use Rattle.dx_base.specs.Members.{◌∈◌}
 use Rattle.dx_base.proofs.Members.{in_from_contains}
-use Rattle.dx_instance.specs.Numbers.{AreDistinctValues, ValuesAscend, value_of}
-use Rattle.dx_instance.specs.Keys.{AreSecondsOrNone, AreSorted, IsKeyIn, IsKeyAndPlace, IsRepeat, IsRise, IsSmallValue, NumbersAreKeyed, ValuesAreKeyed, places_of, value_key}
-use Rattle.dx_instance.specs.Ranks.{AreLengths}
+use Rattle.dx_instance.specs.Numbers.{ValuesDiffer, ValuesAscend, value_of}
+use Rattle.dx_instance.specs.Keys.{SecondKeysOrNone, SortsNumbers, IsKeyIn, IsKeyAndPlace, IsRepeat, IsRise, IsSmallValue, NumbersAreKeyed, ValuesAreKeyed, places_of, value_key}
+use Rattle.dx_instance.specs.Ranks.{ShortLengths}
 use Rattle.dx_instance.proofs.NumberFacts.{self_equal}
 use Rattle.dx_instance.proofs.KeyFacts.{IsKeyOf, keys_sorted, rises}
 use Rattle.dx_instance.proofs.TieFacts.{number_ties_lt, ties_sorted}
@@ -30,7 +30,7 @@ same_or_not m n = elim (cases_lt m n) [
 ]
 
 -- ascending values are distinct
-pub ascend_apart : (xs : List Value) → ValuesAscend xs → AreDistinctValues xs
+pub ascend_apart : (xs : List Value) → ValuesAscend xs → ValuesDiffer xs
 ascend_apart xs up i j d h k e =
     let l = up i j d h k in
     let s = self_equal (get_or xs j d) in
@@ -43,8 +43,8 @@ value_rises (Null m) (Const u) a b h = absurd (cc h)
 value_rises (Null m) (Null n) a b h = omega arith
 
 -- what a sort of the keyed numbers comes to
-pub sorted_numbers : (S : List Value) (lengths seconds : List ℕ) (blank : Value) (ks qs : List (ℕ × ℕ)) → ValuesAreKeyed S ks (length S) → AreLengths S lengths (length S) → AreSecondsOrNone S seconds → IsPermutation ks qs
-    → IsSortedBy (number_ties_lt S lengths seconds blank) qs → AreSorted S (places_of qs)
+pub sorted_numbers : (S : List Value) (lengths seconds : List ℕ) (blank : Value) (ks qs : List (ℕ × ℕ)) → ValuesAreKeyed S ks (length S) → ShortLengths S lengths (length S) → SecondKeysOrNone S seconds → IsPermutation ks qs
+    → IsSortedBy (number_ties_lt S lengths seconds blank) qs → SortsNumbers S (places_of qs)
 sorted_numbers S lengths seconds blank ks qs keyed short second p s = record { many = many; within = λ k h. small k 0 h; all = all; rise = rise }
   where
     at : ℕ → Value
@@ -106,14 +106,14 @@ sorted_numbers S lengths seconds blank ks qs keyed short second p s = record { m
         absurd (cc (rw (x, y) at low, e))
 
 -- the number of a key that is among those sorted
-pub key_in : (S : List Value) (keys : List (ℕ × ℕ)) (i : ℕ) → AreSorted S (places_of keys) → NumbersAreKeyed S keys → i < length keys → IsKeyIn S (get_or keys i (0, 0))
+pub key_in : (S : List Value) (keys : List (ℕ × ℕ)) (i : ℕ) → SortsNumbers S (places_of keys) → NumbersAreKeyed S keys → i < length keys → IsKeyIn S (get_or keys i (0, 0))
 key_in S keys i s keyed h =
     let n = number_read keys i (0, 0) h in
     let b = s.within i (omega (arith, h, length-map keys (λ (q : ℕ × ℕ). q.1))) in
     record { below = omega (arith, n, b); keyed = keyed i h }
 
 -- a value that is not the one before it is above it
-pub rise_here : (S : List Value) (numbers : List ℕ) (i : ℕ) → AreSorted S numbers → i < length numbers → ¬ (value_of S (get_or numbers (i - 1) 0) ≡ value_of S (get_or numbers i 0)) → IsRise S numbers i
+pub rise_here : (S : List Value) (numbers : List ℕ) (i : ℕ) → SortsNumbers S numbers → i < length numbers → ¬ (value_of S (get_or numbers (i - 1) 0) ≡ value_of S (get_or numbers i 0)) → IsRise S numbers i
 rise_here S numbers i s h n z =
     let one : (i - 1) + 1 ≡ i = omega (arith, z) in
     above (value_of S (get_or numbers (i - 1) 0)) (value_of S (get_or numbers i 0)) n (rw one at (s.rise (i - 1) (omega (arith, one, h))))
@@ -127,7 +127,7 @@ rise_here S numbers i s h n z =
         by Greater e = absurd (r (value_total.antisymm y x ∙ ap ordering_reverse e))
 
 -- the first that stands for a value, or one more
-pub first_or_repeat : (S : List Value) (keys : List (ℕ × ℕ)) (i : ℕ) (b : Bool) → AreSorted S (places_of keys) → i < length keys → 0 < i → (IsTrue b ↔ (value_of S (get_or keys (i - 1) (0, 0)).1 ≡ value_of S (get_or keys i (0, 0)).1))
+pub first_or_repeat : (S : List Value) (keys : List (ℕ × ℕ)) (i : ℕ) (b : Bool) → SortsNumbers S (places_of keys) → i < length keys → 0 < i → (IsTrue b ↔ (value_of S (get_or keys (i - 1) (0, 0)).1 ≡ value_of S (get_or keys i (0, 0)).1))
     → MatchBool (not b) (IsRise S (places_of keys) i) (IsRepeat S (places_of keys) i)
 first_or_repeat S keys i b s h z same = by b same
   where

@@ -20,7 +20,7 @@ use Rattle.dx_base.specs.Members.{◌∈◌, ◌⊆◌, here, there, Each}
 use Rattle.dx_base.proofs.Members.{contains_from_in, from_map, in_at, in_from_contains, in_map}
 use Rattle.dx_instance.specs.Cells.{IsOrderOf, NumberTable, NumbersAscend, rows_of_cells}
 use Rattle.dx_instance.specs.Keys.{HasBits, DigitsFit, packed, unpacked}
-use Rattle.dx_instance.specs.Shown.{AreBelow}
+use Rattle.dx_instance.specs.Shown.{NumbersBelow}
 use Rattle.dx_instance.proofs.CellFacts.{rows_push}
 use Rattle.dx_instance.proofs.KeyFacts.{below_more_bound, below_small, rises}
 use Rattle.dx_instance.proofs.TableFacts.{numbers_cmp, numbers_exact}
@@ -51,7 +51,7 @@ rest_more b t p x r key e =
     let two : p * b * t ≡ p * (t * b) = mul_assoc p b t ∙ ap (λ (m : ℕ). p * m) (mul_comm b t) in
     e ∙ ap (λ (m : ℕ). m + r) (one ∙ ap (λ (m : ℕ). m + x * t) two) ∙ add_assoc (p * (t * b)) (x * t) r
 
-has_rest : (c n p : ℕ) (xs : List ℕ) → length xs ≡ n → AreBelow (2 ^ c) xs → HasRest c n p (packed (2 ^ c) n p xs)
+has_rest : (c n p : ℕ) (xs : List ℕ) → length xs ≡ n → NumbersBelow (2 ^ c) xs → HasRest c n p (packed (2 ^ c) n p xs)
 has_rest c zero p [] l b = let z : c * 0 ≡ 0 = omega arith in record { rest = 0; below = pow_pos (c * 0); is = rw z (omega arith) }
 has_rest c zero p (x ∷ xs) l b = absurd (omega (arith, l))
 has_rest c (suc n) p [] l b = absurd (omega (arith, l))
@@ -65,7 +65,7 @@ has_rest c (suc n) p (x ∷ xs) l b =
     }
 
 -- a packed row is read again
-pub unpacked_packed : (c n p : ℕ) (xs : List ℕ) → length xs ≡ n → AreBelow (2 ^ c) xs → unpacked c n (packed (2 ^ c) n p xs) ≡ xs
+pub unpacked_packed : (c n p : ℕ) (xs : List ℕ) → length xs ≡ n → NumbersBelow (2 ^ c) xs → unpacked c n (packed (2 ^ c) n p xs) ≡ xs
 unpacked_packed c zero p [] l b = refl
 unpacked_packed c zero p (x ∷ xs) l b = absurd (omega (arith, l))
 unpacked_packed c (suc n) p [] l b = absurd (omega (arith, l))
@@ -77,7 +77,7 @@ unpacked_packed c (suc n) p (x ∷ xs) l b =
     cc (first, others)
 
 -- rows compare as their numbers
-less_of_keys : (c n : ℕ) (r s : List ℕ) → AreBelow (2 ^ c) r → AreBelow (2 ^ c) s → packed (2 ^ c) n 0 r < packed (2 ^ c) n 0 s → numbers_cmp r s ≡ Less
+less_of_keys : (c n : ℕ) (r s : List ℕ) → NumbersBelow (2 ^ c) r → NumbersBelow (2 ^ c) s → packed (2 ^ c) n 0 r < packed (2 ^ c) n 0 s → numbers_cmp r s ≡ Less
 less_of_keys c n r s a b h = by (numbers_cmp r s) refl
   where
     by : (o : Ordering) → numbers_cmp r s ≡ o → numbers_cmp r s ≡ Less
@@ -103,7 +103,7 @@ length_unpacked c zero key = refl
 length_unpacked c (suc n) key = ap suc (length_unpacked c n key)
 
 -- the numbers stand for the same rows
-module _ (c w : ℕ) (old : List (List ℕ)) (wide : Each old (λ (r : List ℕ). length r ≡ w)) (below : Each old (AreBelow (2 ^ c))) where
+module _ (c w : ℕ) (old : List (List ℕ)) (wide : Each old (λ (r : List ℕ). length r ≡ w)) (below : Each old (NumbersBelow (2 ^ c))) where
   row_of : (r : List ℕ) → r ∈ old → unpacked c w (packed (2 ^ c) w 0 r) ≡ r
   row_of r m = unpacked_packed c w 0 r (wide r m) (below r m)
 
@@ -157,14 +157,14 @@ module _ (c w : ℕ) (old : List (List ℕ)) (wide : Each old (λ (r : List ℕ)
           rw (get_or-map (unpacked c w) keys i 0 x g, get_or-map (unpacked c w) keys j 0 x k) (rise (get_or keys i 0) (get_or keys j 0) (in_at keys i 0 g) (in_at keys j 0 k) (up i j 0 h k))
 
 -- the rows that are read again are in order
-pub order_by_keys : (c w : ℕ) (old new : NumberTable) (found sorted keys : List ℕ) → w ≡ old.width → Each old.rows (λ (r : List ℕ). length r ≡ old.width) → Each old.rows (AreBelow (2 ^ c)) → found ≡ map (packed (2 ^ c) w 0) old.rows → IsPermutation found sorted → IsSorted nat_cmp sorted
+pub order_by_keys : (c w : ℕ) (old new : NumberTable) (found sorted keys : List ℕ) → w ≡ old.width → Each old.rows (λ (r : List ℕ). length r ≡ old.width) → Each old.rows (NumbersBelow (2 ^ c)) → found ≡ map (packed (2 ^ c) w 0) old.rows → IsPermutation found sorted → IsSorted nat_cmp sorted
     → IsFiltered (DiffersFromLast nat_eq) [] sorted keys → ◌≡◌ {A = NumberTable} new (record { width = old.width; rows = map (unpacked c w) keys }) → IsOrderOf old new
 order_by_keys c w old new found sorted keys e wide below f p s d is =
     let a = read_again c w old.rows (λ r m. wide r m ∙ sym e) below found sorted keys f p s d in
     rw is (record { width = refl; ascend = a.ascend; kept = a.kept; only = a.only })
 
 -- what is below a bound is below a higher one
-pub each_below : (b c : ℕ) (rows : List (List ℕ)) → b ≤ c → Each rows (AreBelow b) → Each rows (AreBelow c)
+pub each_below : (b c : ℕ) (rows : List (List ℕ)) → b ≤ c → Each rows (NumbersBelow b) → Each rows (NumbersBelow c)
 each_below b c rows h f r m = below_more_bound b c r h (f r m)
 
 -- the first i rows lie in the cells

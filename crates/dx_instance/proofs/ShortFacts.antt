@@ -10,9 +10,9 @@ use Rattle.dx_model.specs.declared.values.Value.{Value}
 use Rattle.dx_model.specs.declared.values.Value.TheVariants.{Const, Null}
 use Rattle.dx_model.specs.Values.{value_cmp}
 use Rattle.dx_base.proofs.Ranges.{nat_self}
-use Rattle.dx_instance.specs.Keys.{AreSmall, IsSmallValue, packed, value_key}
+use Rattle.dx_instance.specs.Keys.{AllSmall, IsSmallValue, packed, value_key}
 use Rattle.dx_instance.specs.Numbers.{value_of}
-use Rattle.dx_instance.specs.Ranks.{AreLengths, HasBytes, IsLong, IsShortLength, text_of_value}
+use Rattle.dx_instance.specs.Ranks.{ShortLengths, HasBytes, IsLong, IsShortLength, text_of_value}
 use Rattle.dx_instance.proofs.TableFacts.{numbers_cmp}
 
 -- the first n numbers of a list, with zeros after a shorter one
@@ -26,7 +26,7 @@ padded_long zero t = refl
 padded_long (suc n) [] = ap suc (padded_long n [])
 padded_long (suc n) (x ∷ t) = ap suc (padded_long n t)
 
-padded_small : (b n : ℕ) (t : List ℕ) → 0 < b → AreSmall b n t → (i : ℕ) → get_or (padded n t) i 0 < b
+padded_small : (b n : ℕ) (t : List ℕ) → 0 < b → AllSmall b n t → (i : ℕ) → get_or (padded n t) i 0 < b
 padded_small b zero t z s i = z
 padded_small b (suc n) [] z s zero = z
 padded_small b (suc n) [] z s (suc i) = padded_small b n [] z (λ j h. z) i
@@ -57,11 +57,11 @@ as_bytes (a ∷ b ∷ c ∷ d ∷ e ∷ f ∷ g ∷ []) l = absurd (omega (arith
 as_bytes (a ∷ b ∷ c ∷ d ∷ e ∷ f ∷ g ∷ h ∷ i ∷ t) l = absurd (omega (arith, l))
 
 -- the bytes of a text's key
-key_bytes : (t : List ℕ) (key : ℕ) → AreSmall 256 8 t → key ≡ packed 256 8 0 t → to_be_bytes w64 key ≡ padded 8 t
+key_bytes : (t : List ℕ) (key : ℕ) → AllSmall 256 8 t → key ≡ packed 256 8 0 t → to_be_bytes w64 key ≡ padded 8 t
 key_bytes t key s e = be_bytes_8 (padded 8 t) key (padded_long 8 t) (padded_small 256 8 t (omega arith) s) (e ∙ sym (padded_packed 256 8 0 t) ∙ as_bytes (padded 8 t) (padded_long 8 t))
 
 -- the first bytes of the key of a short text are the text
-pub short_text : (t : List ℕ) (key n : ℕ) → n ≡ length t → n ≤ 8 → AreSmall 256 8 t → key ≡ packed 256 8 0 t → take n (to_be_bytes w64 key) ≡ t
+pub short_text : (t : List ℕ) (key n : ℕ) → n ≡ length t → n ≤ 8 → AllSmall 256 8 t → key ≡ packed 256 8 0 t → take n (to_be_bytes w64 key) ≡ t
 short_text t key n l h s e =
     let small : length t ≤ 8 = omega (arith, l, h) in
     ap (λ (m : ℕ). take m (to_be_bytes w64 key)) l ∙ ap (λ (b : List ℕ). take (length t) b) (key_bytes t key s e) ∙ padded_take 8 t small
@@ -71,7 +71,7 @@ short_value (Const t) key n l h s e = short_text t key n (l.short h) h s.0 e
 short_value (Null m) key n l h s e = absurd (l.short h)
 
 -- one length more
-pub lengths_more : (S : List Value) (lengths new : List ℕ) (i n : ℕ) → new ≡ lengths ++ n ∷ [] → IsShortLength (value_of S i) n → AreLengths S lengths i → AreLengths S new (i + 1)
+pub lengths_more : (S : List Value) (lengths new : List ℕ) (i n : ℕ) → new ≡ lengths ++ n ∷ [] → IsShortLength (value_of S i) n → ShortLengths S lengths i → ShortLengths S new (i + 1)
 lengths_more S lengths new i n e l a = rw e (record {
   many = length_push lengths n ∙ ap (λ (m : ℕ). m + 1) a.many;
   all = below_more _ _ (λ j h. let g = get_or_append_left lengths (n ∷ []) 0 j (omega (arith, h, a.many)) in rw g (a.all j h)) (let g = get_or_push lengths n 0 i a.many in rw g l);

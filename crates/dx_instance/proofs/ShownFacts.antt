@@ -16,15 +16,15 @@ use Rattle.dx_base.specs.Members.{◌∈◌, here, there, Each, Distinct}
 use Rattle.dx_base.proofs.Members.{in_map, from_map, in_at, from_append, distinct_more}
 use Rattle.dx_base.proofs.Ranges.{nat_self, nat_less}
 use Rattle.dx_instance.specs.Stored.{TableRows, table_at, rows_of, without_rows, AddsRow, FitsTable, FitsInstance, with_row}
-use Rattle.dx_instance.specs.Numbers.{AreDistinctValues, Extends, IsOrdering, ValuesAscend, value_of}
+use Rattle.dx_instance.specs.Numbers.{ValuesDiffer, Extends, IsOrdering, ValuesAscend, value_of}
 use Rattle.dx_instance.specs.Cells.{NumberTable, numbers_at, with_numbers}
-use Rattle.dx_instance.specs.Shown.{AreBelow, NumberedInstance, NumbersFit, PartsFit, Shows, numbers_of_table, shown, shown_row, shown_tables, NumberRowsFit}
+use Rattle.dx_instance.specs.Shown.{NumbersBelow, NumberedInstance, NumbersFit, PartsFit, Shows, numbers_of_table, shown, shown_row, shown_tables, NumberRowsFit}
 use Rattle.dx_instance.specs.Places.{row_at, value_at}
 use Rattle.dx_instance.proofs.NumberFacts.{self_equal}
 use Rattle.dx_instance.proofs.StoredFacts.{adds_row}
 
 -- numbers are equal where their values are
-pub number_same : (S : List Value) (x y : ℕ) → AreDistinctValues S → x < length S → y < length S → value_of S x ≡ value_of S y → x ≡ y
+pub number_same : (S : List Value) (x y : ℕ) → ValuesDiffer S → x < length S → y < length S → value_of S x ≡ value_of S y → x ≡ y
 number_same S x y a h k e = elim (cases_lt x y) [
   | inl b ↦ absurd (a x y (Const []) b k e)
   | inr b ↦ elim (cases_lt y x) [ inl c ↦ absurd (a y x (Const []) c h (sym e)) | inr c ↦ omega arith ]
@@ -36,7 +36,7 @@ head_same u v us vs e = cc e
 tail_same : (u v : Value) (us vs : List Value) → ◌≡◌ {A = List Value} (u ∷ us) (v ∷ vs) → us ≡ vs
 tail_same u v us vs e = cc e
 
-pub row_same : (S : List Value) (a b : List ℕ) → AreDistinctValues S → AreBelow (length S) a → AreBelow (length S) b → shown_row S a ≡ shown_row S b → a ≡ b
+pub row_same : (S : List Value) (a b : List ℕ) → ValuesDiffer S → NumbersBelow (length S) a → NumbersBelow (length S) b → shown_row S a ≡ shown_row S b → a ≡ b
 row_same S [] [] p h k e = refl
 row_same S [] (y ∷ b) p h k e = absurd (cc e)
 row_same S (x ∷ a) [] p h k e = absurd (cc e)
@@ -55,7 +55,7 @@ number_less S x y up h k = elim (cases_lt x y) [
   ]
 ]
 
-pub row_less : (S : List Value) (a b : List ℕ) → ValuesAscend S → AreBelow (length S) a → AreBelow (length S) b → row_cmp (shown_row S a) (shown_row S b) ≡ slice_cmp nat_cmp a b
+pub row_less : (S : List Value) (a b : List ℕ) → ValuesAscend S → NumbersBelow (length S) a → NumbersBelow (length S) b → row_cmp (shown_row S a) (shown_row S b) ≡ slice_cmp nat_cmp a b
 row_less S [] [] up h k = refl
 row_less S [] (y ∷ b) up h k = refl
 row_less S (x ∷ a) [] up h k = refl
@@ -65,7 +65,7 @@ row_less S (x ∷ a) (y ∷ b) up h k =
     (λ i. ordering_then (first i) (rest i))
 
 -- a row is shown where its numbers stand
-pub from_shown : (S : List Value) (rows : List (List ℕ)) (numbers : List ℕ) (row : List Value) → AreDistinctValues S → Each rows (AreBelow (length S)) → Shows S numbers row → row ∈ map (shown_row S) rows → numbers ∈ rows
+pub from_shown : (S : List Value) (rows : List (List ℕ)) (numbers : List ℕ) (row : List Value) → ValuesDiffer S → Each rows (NumbersBelow (length S)) → Shows S numbers row → row ∈ map (shown_row S) rows → numbers ∈ rows
 from_shown S rows numbers row a w s m =
     let r = from_map (shown_row S) rows m in
     subst (λ (x : List ℕ). x ∈ rows) (row_same S r.0 numbers a (w r.0 r.1) s.within (r.2 ∙ sym s.is)) r.1
@@ -73,13 +73,13 @@ from_shown S rows numbers row a w s m =
 pub to_shown : (S : List Value) (rows : List (List ℕ)) (numbers : List ℕ) (row : List Value) → Shows S numbers row → numbers ∈ rows → row ∈ map (shown_row S) rows
 to_shown S rows numbers row s m = subst (λ (r : List Value). r ∈ map (shown_row S) rows) s.is (in_map (shown_row S) m)
 
-distinct_shown : (S : List Value) (rows : List (List ℕ)) → AreDistinctValues S → Each rows (AreBelow (length S)) → Distinct rows → Distinct (map (shown_row S) rows)
+distinct_shown : (S : List Value) (rows : List (List ℕ)) → ValuesDiffer S → Each rows (NumbersBelow (length S)) → Distinct rows → Distinct (map (shown_row S) rows)
 distinct_shown S [] a w d = tt
 distinct_shown S (r ∷ rows) a w d =
     let s : Shows S r (shown_row S r) = record { is = refl; within = w r (here refl) } in
     ((λ m. d.0 (from_shown S rows r (shown_row S r) a (λ x m. w x (there m)) s m)), distinct_shown S rows a (λ x m. w x (there m)) d.1)
 
-pub fits_shown : (S : List Value) (t : NumberTable) → AreDistinctValues S → NumbersFit (length S) t → FitsTable (shown S t)
+pub fits_shown : (S : List Value) (t : NumberTable) → ValuesDiffer S → NumbersFit (length S) t → FitsTable (shown S t)
 fits_shown S t a f = record {
   columns = f.columns;
   each = λ row m. let r = from_map (shown_row S) t.rows m in rw (← r.2) (length-map r.0 (value_of S) ∙ f.each r.0 r.1);
@@ -114,7 +114,7 @@ pub row_shown : (S : List Value) (ts : List NumberTable) (I : List TableRows) (n
 row_shown S ts I n p t e h r b =
     ap (λ (J : List TableRows). row_at J n p) (sym e) ∙ ap (λ (u : TableRows). get_or u.rows p []) (is_shown S ts n t h r) ∙ get_or-map (shown_row S) t.rows p [] [] b
 
-pub numbers_below : (n : ℕ) (t : NumberTable) (p : ℕ) → NumbersFit n t → p < length t.rows → AreBelow n (numbers_at t.rows p)
+pub numbers_below : (n : ℕ) (t : NumberTable) (p : ℕ) → NumbersFit n t → p < length t.rows → NumbersBelow n (numbers_at t.rows p)
 numbers_below n t p f b = f.within (numbers_at t.rows p) (in_at t.rows p [] b)
 
 pub numbers_wide : (n : ℕ) (t : NumberTable) (p : ℕ) → NumbersFit n t → p < length t.rows → length (numbers_at t.rows p) ≡ t.width
@@ -127,17 +127,17 @@ longer S S' e = omega (arith, ap length e.is, length-append S e.more)
 pub grown_value : (S S' : List Value) (x : ℕ) → Extends S S' → x < length S → value_of S' x ≡ value_of S x
 grown_value S S' x e h = ap (λ (T : List Value). value_of T x) e.is ∙ get_or_append_left S e.more (Const []) x h
 
-pub grown_row : (S S' : List Value) (row : List ℕ) → Extends S S' → AreBelow (length S) row → shown_row S' row ≡ shown_row S row
+pub grown_row : (S S' : List Value) (row : List ℕ) → Extends S S' → NumbersBelow (length S) row → shown_row S' row ≡ shown_row S row
 grown_row S S' [] e h = refl
 grown_row S S' (x ∷ row) e h =
     let first = grown_value S S' x e (h x (here refl)) in
     let rest = grown_row S S' row e (λ y m. h y (there m)) in
     cc (first, rest)
 
-pub grown_below : (S S' : List Value) (row : List ℕ) → Extends S S' → AreBelow (length S) row → AreBelow (length S') row
+pub grown_below : (S S' : List Value) (row : List ℕ) → Extends S S' → NumbersBelow (length S) row → NumbersBelow (length S') row
 grown_below S S' row e h x m = let b = h x m in let l = longer S S' e in omega (arith, b, l)
 
-pub grown_rows : (S S' : List Value) (rows : List (List ℕ)) → Extends S S' → Each rows (AreBelow (length S)) → map (shown_row S') rows ≡ map (shown_row S) rows
+pub grown_rows : (S S' : List Value) (rows : List (List ℕ)) → Extends S S' → Each rows (NumbersBelow (length S)) → map (shown_row S') rows ≡ map (shown_row S) rows
 grown_rows S S' [] e h = refl
 grown_rows S S' (r ∷ rows) e h =
     let first = grown_row S S' r e (h r (here refl)) in
@@ -157,7 +157,7 @@ grown_tables S S' (t ∷ ts) e h =
 grown_fit : (S S' : List Value) (t : NumberTable) → Extends S S' → NumbersFit (length S) t → NumbersFit (length S') t
 grown_fit S S' t e f = record { columns = f.columns; each = f.each; within = λ r m. grown_below S S' r e (f.within r m); distinct = f.distinct; few = f.few }
 
-fits_more : (n : ℕ) (t : NumberTable) (row : List ℕ) → NumbersFit n t → length row ≡ t.width → AreBelow n row → length t.rows < 2 ^ 32 - 1 → ¬ (row ∈ t.rows) → NumbersFit n (with_numbers t row)
+fits_more : (n : ℕ) (t : NumberTable) (row : List ℕ) → NumbersFit n t → length row ≡ t.width → NumbersBelow n row → length t.rows < 2 ^ 32 - 1 → ¬ (row ∈ t.rows) → NumbersFit n (with_numbers t row)
 fits_more n t row f w b room new = record {
   columns = f.columns;
   each = λ r m. elim (from_append t.rows m) [ inl l ↦ f.each r l | inr k ↦ rw (last r k) w ];
@@ -177,7 +177,7 @@ from_set (z ∷ zs) zero y x (there m) = inr (there m)
 from_set (z ∷ zs) (suc i) y x (here e) = inr (here e)
 from_set (z ∷ zs) (suc i) y x (there m) = elim (from_set zs i y x m) [ inl e ↦ inl e | inr k ↦ inr (there k) ]
 
-set_fits : (S S' : List Value) (ts : List NumberTable) (n : ℕ) (t : NumberTable) → PartsFit S ts → Extends S S' → AreDistinctValues S' → length S' < 2 ^ 32 → NumbersFit (length S') t → PartsFit S' (set ts n t)
+set_fits : (S S' : List Value) (ts : List NumberTable) (n : ℕ) (t : NumberTable) → PartsFit S ts → Extends S S' → ValuesDiffer S' → length S' < 2 ^ 32 → NumbersFit (length S') t → PartsFit S' (set ts n t)
 set_fits S S' ts n t f e a l g = record {
   apart = a;
   small = l;
@@ -190,7 +190,7 @@ pub record Adding (S S' : List Value) (ts : List NumberTable) (I : List TableRow
   pub fits : PartsFit S ts
   pub view : shown_tables S ts ≡ I
   pub grows : Extends S S'
-  pub apart : AreDistinctValues S'
+  pub apart : ValuesDiffer S'
   pub small : length S' < 2 ^ 32
   pub table : n < length I
   pub read : told ≡ get_or ts n told
@@ -325,7 +325,7 @@ cell_below S ts I n p col t row f v h r b w e =
     let pb = place_within S ts I n p t v hs r b in
     let same : (table_at I n).width ≡ t.width = ap (λ (J : List TableRows). (table_at J n).width) (sym v) ∙ ap (λ (u : TableRows). u.width) (is_shown S ts n t hs r) in
     let wide : length row ≡ t.width = ap length e ∙ numbers_wide (length S) t p fits pb in
-    let below : AreBelow (length S) row = rw e (numbers_below (length S) t p fits pb) in
+    let below : NumbersBelow (length S) row = rw e (numbers_below (length S) t p fits pb) in
     below (get_or row col 0) (in_at row col 0 (omega (arith, w, same, wide)))
 
 -- a value is that under its number
@@ -341,19 +341,19 @@ value_shown S ts I n p col t row f v h r b w e =
     ∙ ap (λ (vs : List Value). get_or vs col (Const [])) (sym (row_shown S ts I n p t v hs r pb))
 
 -- numbers fit ranks that there are as many of
-pub below_ranks : (S T : List Value) (ranks rs : List ℕ) (t : NumberTable) → IsOrdering S T ranks → rs ≡ ranks → NumbersFit (length S) t → Each t.rows (AreBelow (length rs))
+pub below_ranks : (S T : List Value) (ranks rs : List ℕ) (t : NumberTable) → IsOrdering S T ranks → rs ≡ ranks → NumbersFit (length S) t → Each t.rows (NumbersBelow (length rs))
 below_ranks S T ranks rs t o e f r m x k = let b = f.within r m x k in omega (arith, b, o.ranked, ap length e)
 
 -- the numbers of a row that is lent
-lent_below : (S : List Value) (ts : List NumberTable) (n p : ℕ) (t : NumberTable) (row : List ℕ) → PartsFit S ts → t ≡ get_or ts n t → row ≡ numbers_at t.rows p → n < length ts → p < length (numbers_of_table ts n).rows → AreBelow (length S) row
+lent_below : (S : List Value) (ts : List NumberTable) (n p : ℕ) (t : NumberTable) (row : List ℕ) → PartsFit S ts → t ≡ get_or ts n t → row ≡ numbers_at t.rows p → n < length ts → p < length (numbers_of_table ts n).rows → NumbersBelow (length S) row
 lent_below S ts n p t row f e r h k =
     let same : numbers_of_table ts n ≡ t = get_or_default ts n (record { width = 0; rows = [] }) t h ∙ sym e in
     rw r (numbers_below (length S) t p (fits_in S ts n t f h e) (subst (λ (u : NumberTable). p < length u.rows) same k))
 
 pub row_below : (N : NumberedInstance) (S : List Value) (ts : List NumberTable) (n p : ℕ) (t : NumberTable) (row : List ℕ) → ◌≡◌ {A = NumberedInstance} (record { symbols = S; tables = ts }) N → PartsFit S ts → t ≡ get_or ts n t → row ≡ numbers_at t.rows p
-    → n < length N.tables → p < length (numbers_of_table N.tables n).rows → AreBelow (length N.symbols) row
+    → n < length N.tables → p < length (numbers_of_table N.tables n).rows → NumbersBelow (length N.symbols) row
 row_below N S ts n p t row v f e r =
-    subst (λ (M : NumberedInstance). n < length M.tables → p < length (numbers_of_table M.tables n).rows → AreBelow (length M.symbols) row) v (lent_below S ts n p t row f e r)
+    subst (λ (M : NumberedInstance). n < length M.tables → p < length (numbers_of_table M.tables n).rows → NumbersBelow (length M.symbols) row) v (lent_below S ts n p t row f e r)
 
 -- tables whose rows fit the symbols show the same with more symbols
 pub grown_fitting : (S T : List Value) (ts : List NumberTable) → Extends S T → Each ts (NumberRowsFit (length S)) → shown_tables T ts ≡ shown_tables S ts

@@ -17,14 +17,14 @@ use Rattle.dx_model.specs.Values.{row_cmp, RowsAscend}
 use Rattle.dx_base.specs.Members.{◌∈◌, ◌⊆◌, here, there, Each, Distinct}
 use Rattle.dx_base.proofs.Members.{in_map, from_map, contains_from_in}
 use Rattle.dx_instance.specs.Stored.{TableRows, rows_of, table_at, widths, IsSorting}
-use Rattle.dx_instance.specs.Numbers.{AreDistinctValues, Extends, IsOrdering, ValuesAscend, value_of}
+use Rattle.dx_instance.specs.Numbers.{ValuesDiffer, Extends, IsOrdering, ValuesAscend, value_of}
 use Rattle.dx_instance.specs.Cells.{IsPut, NumberTable, NumbersAscend}
-use Rattle.dx_instance.specs.Shown.{AreBelow, NumbersFit, PartsFit, NumberRowsFit, renumbered, shown, shown_row, shown_tables}
+use Rattle.dx_instance.specs.Shown.{NumbersBelow, NumbersFit, PartsFit, NumberRowsFit, renumbered, shown, shown_row, shown_tables}
 use Rattle.dx_instance.proofs.TableFacts.{numbers_cmp, numbers_self}
 use Rattle.dx_instance.proofs.AfterFacts.{image_of_rows}
 use Rattle.dx_instance.proofs.ShownFacts.{row_less, is_shown, fits_in, table_within}
 
-each_above : (T : List Value) (r : List ℕ) (rows : List (List ℕ)) → ValuesAscend T → AreBelow (length T) r → Each rows (AreBelow (length T)) → ((k : ℕ) → k < length rows → numbers_cmp r (get_or rows k []) ≡ Less) → Each (map (shown_row T) rows) (λ s. row_cmp (shown_row T r) s ≡ Less)
+each_above : (T : List Value) (r : List ℕ) (rows : List (List ℕ)) → ValuesAscend T → NumbersBelow (length T) r → Each rows (NumbersBelow (length T)) → ((k : ℕ) → k < length rows → numbers_cmp r (get_or rows k []) ≡ Less) → Each (map (shown_row T) rows) (λ s. row_cmp (shown_row T r) s ≡ Less)
 each_above T r rows up b w h s m =
     let k = from_map (shown_row T) rows m in
     let at = contains_from_in k.1 in
@@ -37,7 +37,7 @@ each_above T r rows up b w h s m =
     get_or_any (x ∷ xs) (suc i) d e h = get_or_any xs i d e (omega arith)
 
 -- rows of numbers that ascend show rows that ascend
-rows_ascend : (T : List Value) (rows : List (List ℕ)) → ValuesAscend T → Each rows (AreBelow (length T)) → NumbersAscend rows → RowsAscend (map (shown_row T) rows)
+rows_ascend : (T : List Value) (rows : List (List ℕ)) → ValuesAscend T → Each rows (NumbersBelow (length T)) → NumbersAscend rows → RowsAscend (map (shown_row T) rows)
 rows_ascend T [] up w a = tt
 rows_ascend T (r ∷ rows) up w a = (
   each_above T r rows up (w r (here refl)) (λ x m. w x (there m)) (λ k h. a 0 (suc k) [] (omega arith) (omega arith)),
@@ -100,7 +100,7 @@ each_fits n (s ∷ ts) [] f z t m = elim m [ ]
 each_fits n (s ∷ ts) (u ∷ us) f z t (here e) = rw (← e) (put_fits n s u (f s (here refl)) z.0)
 each_fits n (s ∷ ts) (u ∷ us) f z t (there m) = each_fits n ts us (λ x k. f x (there k)) z.1 t m
 
-pub parts_put : (S : List Value) (ts us : List NumberTable) → AreDistinctValues S → length S < 2 ^ 32 → Each ts (NumberRowsFit (length S)) → length ts < 2 ^ 32 - 1 → AllZip IsPut ts us → PartsFit S us
+pub parts_put : (S : List Value) (ts us : List NumberTable) → ValuesDiffer S → length S < 2 ^ 32 → Each ts (NumberRowsFit (length S)) → length ts < 2 ^ 32 - 1 → AllZip IsPut ts us → PartsFit S us
 parts_put S ts us a l f w z = record { apart = a; small = l; each = each_fits (length S) ts us f z; few = rw (AllZip-long IsPut ts us z) w }
 
 pub instance_put : (S : List Value) (ts us : List NumberTable) → ValuesAscend S → Each ts (NumberRowsFit (length S)) → AllZip IsPut ts us → IsSorting (shown_tables S ts) (shown_tables S us)
@@ -119,14 +119,14 @@ abbrev ranked : List ℕ → List ℕ → List ℕ
 ranked ranks r = map (λ (x : ℕ). get_or ranks x 0) r
 
 -- ranks show the same values
-ranked_shows : (S T : List Value) (ranks r : List ℕ) → IsOrdering S T ranks → AreBelow (length S) r → shown_row T (ranked ranks r) ≡ shown_row S r
+ranked_shows : (S T : List Value) (ranks r : List ℕ) → IsOrdering S T ranks → NumbersBelow (length S) r → shown_row T (ranked ranks r) ≡ shown_row S r
 ranked_shows S T ranks [] o b = refl
 ranked_shows S T ranks (x ∷ r) o b =
     let first = o.at x (b x (here refl)) in
     let rest = ranked_shows S T ranks r o (λ y m. b y (there m)) in
     cc (first, rest)
 
-rows_show : (S T : List Value) (ranks : List ℕ) (rows : List (List ℕ)) → IsOrdering S T ranks → Each rows (AreBelow (length S)) → map (shown_row T) (map (ranked ranks) rows) ≡ map (shown_row S) rows
+rows_show : (S T : List Value) (ranks : List ℕ) (rows : List (List ℕ)) → IsOrdering S T ranks → Each rows (NumbersBelow (length S)) → map (shown_row T) (map (ranked ranks) rows) ≡ map (shown_row S) rows
 rows_show S T ranks [] o b = refl
 rows_show S T ranks (r ∷ rows) o b =
     let first = ranked_shows S T ranks r o (b r (here refl)) in
@@ -142,7 +142,7 @@ ranks_show S T ranks (t ∷ ts) o f =
     cc (first, rest)
 
 -- other numbers are below n if those for the numbers below m are
-within_images : (n m : ℕ) (images : List ℕ) (r : List ℕ) → ((x : ℕ) → x < m → get_or images x 0 < n) → AreBelow m r → AreBelow n (ranked images r)
+within_images : (n m : ℕ) (images : List ℕ) (r : List ℕ) → ((x : ℕ) → x < m → get_or images x 0 < n) → NumbersBelow m r → NumbersBelow n (ranked images r)
 within_images n m images r w b x h = let k = from_map (λ (y : ℕ). get_or images y 0) r h in let l = w k.0 (b k.0 k.1) in omega (arith, l, k.2)
 
 pub images_fit : (n m : ℕ) (images : List ℕ) (ts : List NumberTable) → ((x : ℕ) → x < m → get_or images x 0 < n) → Each ts (NumberRowsFit m) → Each (map (renumbered images) ts) (NumberRowsFit n)
@@ -151,7 +151,7 @@ images_fit n m images ts w f u h =
     let g = f k.0 k.1 in
     subst (λ (t : NumberTable). NumberRowsFit n t) k.2 (record {
       columns = g.columns;
-      within = λ r q. let s = from_map (ranked images) k.0.rows q in subst (λ (x : List ℕ). AreBelow n x) s.2 (within_images n m images s.0 w (g.within s.0 s.1));
+      within = λ r q. let s = from_map (ranked images) k.0.rows q in subst (λ (x : List ℕ). NumbersBelow n x) s.2 (within_images n m images s.0 w (g.within s.0 s.1));
     })
 
 -- a sorting of what is the same
@@ -159,7 +159,7 @@ pub same_sorting : (I J K : List TableRows) → I ≡ J → IsSorting I K → Is
 same_sorting I J K e s = subst (λ (L : List TableRows). IsSorting L K) e s
 
 -- images of values
-images_show : (m : ByNull) (S T : List Value) (images r : List ℕ) → AreImages m S T images (length S) → AreBelow (length S) r → shown_row T (ranked images r) ≡ map (moved (becomes m)) (shown_row S r)
+images_show : (m : ByNull) (S T : List Value) (images r : List ℕ) → AreImages m S T images (length S) → NumbersBelow (length S) r → shown_row T (ranked images r) ≡ map (moved (becomes m)) (shown_row S r)
 images_show m S T images [] o b = refl
 images_show m S T images (x ∷ r) o b =
     let first = o.at x (b x (here refl)) in
@@ -170,7 +170,7 @@ record MapsTable (m : ByNull) (old new : TableRows) : Type 0 where
   pub kept : (row : List Value) → row ∈ old.rows → map (moved (becomes m)) row ∈ new.rows
   pub only : (row : List Value) → row ∈ new.rows → (r : List Value) × (r ∈ old.rows) × (map (moved (becomes m)) r ≡ row)
 
-table_maps : (m : ByNull) (S T : List Value) (images : List ℕ) (t : NumberTable) → AreImages m S T images (length S) → Each t.rows (AreBelow (length S)) → MapsTable m (shown S t) (shown T (renumbered images t))
+table_maps : (m : ByNull) (S T : List Value) (images : List ℕ) (t : NumberTable) → AreImages m S T images (length S) → Each t.rows (NumbersBelow (length S)) → MapsTable m (shown S t) (shown T (renumbered images t))
 table_maps m S T images t o f = record {
   kept = λ row h. let q = from_map (shown_row S) t.rows h in
       subst (λ (v : List Value). v ∈ map (shown_row T) (map (ranked images) t.rows)) (images_show m S T images q.0 o (f q.0 q.1) ∙ ap (λ (v : List Value). map (moved (becomes m)) v) q.2) (in_map (shown_row T) (in_map (ranked images) q.1));

@@ -22,7 +22,7 @@ use Rattle.dx_model.specs.Values.{null_cmp}
 use Rattle.dx_model.proofs.Orders.{null_total, null_exact}
 use Rattle.dx_base.specs.Members.{Each, here, there}
 use Rattle.dx_base.proofs.Members.{from_map, item_in}
-use Rattle.dx_instance.specs.NullMaps.{AreStored, ByNull, NoPairIsItself, NoneIsItself, PairsAscend, entries_in, is_itself, map_of_entries, pair_after, pairs_of, with_proper, with_value}
+use Rattle.dx_instance.specs.NullMaps.{StoresNulls, ByNull, NoPairIsItself, NoneIsItself, PairsAscend, entries_in, is_itself, map_of_entries, pair_after, pairs_of, with_proper, with_value}
 use Rattle.dx_instance.proofs.NullFacts.{as_pairs, get_null, null_map_of, pair_of, pairs_stored}
 use Rattle.dx_instance.proofs.AfterFacts.{itself, tie}
 use Rattle.dx_instance.proofs.MergeFacts.{above, pairs_push, proper_push}
@@ -32,7 +32,7 @@ pub no_tree : (ps : List NullPair) (tree : List (NullId × Value)) → length tr
 no_tree ps tree e = ap (λ (l : List (NullId × Value)). map_of_entries (l ++ entries_in ps)) (nil_from_length tree e)
 
 -- only the tree, if it isn't empty
-pub tree_alone : (ps : List NullPair) (tree : List (NullId × Value)) → AreStored ps tree → ¬ (length tree ≡ 0) → map_of_entries (tree ++ entries_in ps) ≡ map_of_entries tree
+pub tree_alone : (ps : List NullPair) (tree : List (NullId × Value)) → StoresNulls ps tree → ¬ (length tree ≡ 0) → map_of_entries (tree ++ entries_in ps) ≡ map_of_entries tree
 tree_alone ps tree s n = elim s.one [
   | inl e ↦ absurd (n (ap length e))
   | inr e ↦ ap (λ (l : List NullPair). map_of_entries (tree ++ entries_in l)) e ∙ ap map_of_entries (append-nil tree)
@@ -41,7 +41,7 @@ tree_alone ps tree s n = elim s.one [
 pub get_listed : (ps : List NullPair) (tree : List (NullId × Value)) (m : ByNull) (q : NullId) → map_of_entries (tree ++ entries_in ps) ≡ m → length tree ≡ 0 → finite.find null_cmp q (entries_in ps) ≡ finite.get m q
 get_listed ps tree m q v e = sym (finite.get-from_entries null_total (entries_in ps) q) ∙ ap (λ (k : ByNull). finite.get k q) (sym (no_tree ps tree e) ∙ v)
 
-pub get_in_tree : (ps : List NullPair) (tree : List (NullId × Value)) (m : ByNull) (q : NullId) → map_of_entries (tree ++ entries_in ps) ≡ m → AreStored ps tree → ¬ (length tree ≡ 0) → lookup (is_at (null_cmp q)) tree ≡ finite.get m q
+pub get_in_tree : (ps : List NullPair) (tree : List (NullId × Value)) (m : ByNull) (q : NullId) → map_of_entries (tree ++ entries_in ps) ≡ m → StoresNulls ps tree → ¬ (length tree ≡ 0) → lookup (is_at (null_cmp q)) tree ≡ finite.get m q
 get_in_tree ps tree m q v s n = sym (get_null tree q) ∙ ap (λ (k : ByNull). finite.get k q) (sym (tree_alone ps tree s n) ∙ v)
 
 -- a null above all others is not listed
@@ -70,7 +70,7 @@ pub set_last : (ps new : List NullPair) (tree : List (NullId × Value)) (m : ByN
 set_last ps new tree m n v view e all put =
     no_tree new tree e ∙ ap (λ (l : List NullPair). map_of_entries (entries_in l)) put ∙ listed_last ps n v all ∙ ap (λ (k : ByNull). with_value k n v) (sym (no_tree ps tree e) ∙ view)
 
-proper_last : (ps : List NullPair) (tree : List (NullId × Value)) (n : NullId) (v : Value) → AreStored ps tree → length tree ≡ 0 → Each ps (λ (p : NullPair). null_cmp p.null n ≡ Less) → AreStored (with_proper ps n v) tree
+proper_last : (ps : List NullPair) (tree : List (NullId × Value)) (n : NullId) (v : Value) → StoresNulls ps tree → length tree ≡ 0 → Each ps (λ (p : NullPair). null_cmp p.null n ≡ Less) → StoresNulls (with_proper ps n v) tree
 proper_last ps tree n v s e all = elim (cases_Bool (is_itself n v)) [
   | inl t ↦ rw t s
   | inr f ↦ rw f (record {
@@ -81,9 +81,9 @@ proper_last ps tree n v s e all = elim (cases_Bool (is_itself n v)) [
   })
 ]
 
-pub stored_last : (ps new : List NullPair) (tree : List (NullId × Value)) (n : NullId) (v : Value) → AreStored ps tree → length tree ≡ 0
-    → Each ps (λ (p : NullPair). null_cmp p.null n ≡ Less) → new ≡ with_proper ps n v → AreStored new tree
-stored_last ps new tree n v s e all put = subst (λ (l : List NullPair). AreStored l tree) (sym put) (proper_last ps tree n v s e all)
+pub stored_last : (ps new : List NullPair) (tree : List (NullId × Value)) (n : NullId) (v : Value) → StoresNulls ps tree → length tree ≡ 0
+    → Each ps (λ (p : NullPair). null_cmp p.null n ≡ Less) → new ≡ with_proper ps n v → StoresNulls new tree
+stored_last ps new tree n v s e all put = subst (λ (l : List NullPair). StoresNulls l tree) (sym put) (proper_last ps tree n v s e all)
 
 -- the same of a call that may fail
 pub on_set_last : {A E : Type 0} (ps lent new : List NullPair) (tree : List (NullId × Value)) (m : ByNull) (n : NullId) (v : Value) (r : Result A E) (b : Bool) → lent ≡ ps → map_of_entries (tree ++ entries_in ps) ≡ m → length tree ≡ 0
@@ -92,11 +92,11 @@ on_set_last ps lent new tree m n v (Ok x) b e view z all t put =
     set_last ps new tree m n v view z (subst (λ (l : List NullPair). Each l (λ (p : NullPair). null_cmp p.null n ≡ Less)) e (rw t at all)) put
 on_set_last ps lent new tree m n v (Err x) b e view z all t put = tt
 
-pub stored_last_by : {A E : Type 0} (ps lent new : List NullPair) (tree : List (NullId × Value)) (n : NullId) (v : Value) (r : Result A E) (b : Bool) → lent ≡ ps → AreStored ps tree → length tree ≡ 0
-    → OnTrue b (Each lent (λ (p : NullPair). null_cmp p.null n ≡ Less)) → b ≡ true → OnOk r (new ≡ with_proper ps n v) → OnErr r (new ≡ ps) → AreStored new tree
+pub stored_last_by : {A E : Type 0} (ps lent new : List NullPair) (tree : List (NullId × Value)) (n : NullId) (v : Value) (r : Result A E) (b : Bool) → lent ≡ ps → StoresNulls ps tree → length tree ≡ 0
+    → OnTrue b (Each lent (λ (p : NullPair). null_cmp p.null n ≡ Less)) → b ≡ true → OnOk r (new ≡ with_proper ps n v) → OnErr r (new ≡ ps) → StoresNulls new tree
 stored_last_by ps lent new tree n v (Ok x) b e s z all t put stay =
     stored_last ps new tree n v s z (subst (λ (l : List NullPair). Each l (λ (p : NullPair). null_cmp p.null n ≡ Less)) e (rw t at all)) put
-stored_last_by ps lent new tree n v (Err x) b e s z all t put stay = subst (λ (l : List NullPair). AreStored l tree) (sym stay) s
+stored_last_by ps lent new tree n v (Err x) b e s z all t put stay = subst (λ (l : List NullPair). StoresNulls l tree) (sym stay) s
 
 -- one pair more in a tree
 pub tree_more : (ps : List NullPair) (k l : ℕ) (d : NullPair) (v : Value) (tree new : List (NullId × Value)) → k < length ps → l ≡ k + 1 → NoPairIsItself ps → d ≡ get_or ps k d → v ≡ d.value → map_of_entries tree ≡ map_of_entries (entries_in (drop l ps))
@@ -123,14 +123,14 @@ none_itself : (ps : List NullPair) → NoPairIsItself ps → NoneIsItself (entri
 none_itself ps h e i = let k = from_map (λ (p : NullPair). (p.null, p.value)) ps i in subst (λ (x : NullId × Value). ¬ (x.1 ≡ Null x.0)) k.2 (h k.0 k.1)
 
 -- the pairs are those of the map, if there is no tree
-pub pairs_listed : (ps : List NullPair) (tree : List (NullId × Value)) (m : ByNull) → map_of_entries (tree ++ entries_in ps) ≡ m → AreStored ps tree → length tree ≡ 0 → ps ≡ pairs_of m
+pub pairs_listed : (ps : List NullPair) (tree : List (NullId × Value)) (m : ByNull) → map_of_entries (tree ++ entries_in ps) ≡ m → StoresNulls ps tree → length tree ≡ 0 → ps ≡ pairs_of m
 pairs_listed ps tree m view s e = sym (as_pairs ps) ∙ pairs_stored (entries_in ps) m (keys_ascend ps s.ascend) (sym (no_tree ps tree e) ∙ view)
 
-pub null_map_listed : (ps : List NullPair) (tree : List (NullId × Value)) (m : ByNull) → map_of_entries (tree ++ entries_in ps) ≡ m → AreStored ps tree → length tree ≡ 0 → IsNullMap (pairs_of m)
+pub null_map_listed : (ps : List NullPair) (tree : List (NullId × Value)) (m : ByNull) → map_of_entries (tree ++ entries_in ps) ≡ m → StoresNulls ps tree → length tree ≡ 0 → IsNullMap (pairs_of m)
 null_map_listed ps tree m view s e =
     subst IsNullMap (pairs_stored (entries_in ps) m (keys_ascend ps s.ascend) (sym (no_tree ps tree e) ∙ view)) (null_map_of (entries_in ps) (keys_ascend ps s.ascend) (none_itself ps s.proper))
 
-pub copies_listed : {E : Type 0} (ps lent : List NullPair) (tree : List (NullId × Value)) (m : ByNull) (r : Result (Vec NullPair Global) E) → lent ≡ ps → map_of_entries (tree ++ entries_in ps) ≡ m → AreStored ps tree → length tree ≡ 0
+pub copies_listed : {E : Type 0} (ps lent : List NullPair) (tree : List (NullId × Value)) (m : ByNull) (r : Result (Vec NullPair Global) E) → lent ≡ ps → map_of_entries (tree ++ entries_in ps) ≡ m → StoresNulls ps tree → length tree ≡ 0
     → IfOk r (λ v. v.items ≡ lent) → IfOk r (λ v. v.items ≡ pairs_of m)
 copies_listed ps lent tree m (Ok x) e view s z copied = copied ∙ e ∙ pairs_listed ps tree m view s z
 copies_listed ps lent tree m (Err x) e view s z copied = tt

@@ -13,8 +13,8 @@ use Rattle.dx_model.specs.declared.values.Value.{Value}
 use Rattle.dx_model.specs.declared.values.Value.TheVariants.{Const, Null}
 use Rattle.dx_model.specs.Values.{value_cmp}
 use Rattle.dx_model.proofs.Orders.{value_total, value_exact}
-use Rattle.dx_instance.specs.Keys.{AreSeconds, AreSecondsOrNone, IsKeyIn, IsSecondOf, IsSmallSecond, IsSmallValue, if_less, if_long, long_cmp, second_key, tie_cmp, value_key}
-use Rattle.dx_instance.specs.Ranks.{AreLengths, IsShortLength}
+use Rattle.dx_instance.specs.Keys.{SecondKeys, SecondKeysOrNone, IsKeyIn, IsSecondOf, IsSmallSecond, IsSmallValue, if_less, if_long, long_cmp, second_key, tie_cmp, value_key}
+use Rattle.dx_instance.specs.Ranks.{ShortLengths, IsShortLength}
 use Rattle.dx_instance.specs.Numbers.{value_of}
 use Rattle.dx_instance.proofs.HalfFacts.{halves, small_halves}
 use Rattle.dx_instance.proofs.NumberFacts.{self_equal}
@@ -23,7 +23,7 @@ use Rattle.dx_base.proofs.Ranges.{nat_less, nat_self}
 use Rattle.dx_instance.proofs.KeyFacts.{IsKeyOf, by_key, numbers_first, rises}
 
 -- one second key more
-pub seconds_more : (S : List Value) (seconds new : List ℕ) (i k : ℕ) → new ≡ seconds ++ k ∷ [] → IsSecondOf (value_of S i) k → AreSeconds S seconds i → AreSeconds S new (i + 1)
+pub seconds_more : (S : List Value) (seconds new : List ℕ) (i k : ℕ) → new ≡ seconds ++ k ∷ [] → IsSecondOf (value_of S i) k → SecondKeys S seconds i → SecondKeys S new (i + 1)
 seconds_more S seconds new i k n s a = rw n (record {
   many = length_push seconds k ∙ ap (λ (m : ℕ). m + 1) a.many;
   all = below_more _ _ (λ j h. let g = get_or_append_left seconds (k ∷ []) 0 j (omega (arith, h, a.many)) in rw g (a.all j h)) (let g = get_or_push seconds k 0 i a.many in rw g s);
@@ -97,23 +97,23 @@ number_ties_total S lengths seconds blank =
     (then_total (on_total (λ (k : ℕ × ℕ). if_long lengths 0 (slice_index seconds) k.1) nat_cmp_total) (on_total (λ (k : ℕ × ℕ). if_long lengths blank (λ n. get_or S n blank) k.1) value_total)))
 
 module _ (S : List Value) (lengths seconds : List ℕ) (blank : Value) where
-  second_at : AreSeconds S seconds (length S) → (n : ℕ) → n < length S → IsSecondOf (get_or S n blank) (slice_index seconds n)
+  second_at : SecondKeys S seconds (length S) → (n : ℕ) → n < length S → IsSecondOf (get_or S n blank) (slice_index seconds n)
   second_at a n h = subst (λ (v : Value). IsSecondOf v (slice_index seconds n)) (sym (get_or_default S n blank (Const []) h)) (a.all n h)
 
-  second_tells : AreSecondsOrNone S seconds → (m n : ℕ) → m < length S → n < length S → IsSmallValue (get_or S m blank) → IsSmallValue (get_or S n blank) → value_key (get_or S m blank) ≡ value_key (get_or S n blank)
+  second_tells : SecondKeysOrNone S seconds → (m n : ℕ) → m < length S → n < length S → IsSmallValue (get_or S m blank) → IsSmallValue (get_or S n blank) → value_key (get_or S m blank) ≡ value_key (get_or S n blank)
       → long_cmp S seconds blank m n ≡ value_cmp (get_or S m blank) (get_or S n blank)
   second_tells (inl none) m n b c p q e = rw none refl
   second_tells (inr a) m n b c p q e = seconds_tell (get_or S m blank) (get_or S n blank) (slice_index seconds m) (slice_index seconds n) p q (second_at a m b) (second_at a n c) e
 
-  length_at : AreLengths S lengths (length S) → (n : ℕ) → n < length S → IsShortLength (get_or S n blank) (slice_index lengths n)
+  length_at : ShortLengths S lengths (length S) → (n : ℕ) → n < length S → IsShortLength (get_or S n blank) (slice_index lengths n)
   length_at a n h = subst (λ (v : Value). IsShortLength v (slice_index lengths n)) (sym (get_or_default S n blank (Const []) h)) (a.all n h)
 
-  pub tie_is : AreLengths S lengths (length S) → AreSecondsOrNone S seconds → (m n : ℕ) → m < length S → n < length S → IsSmallValue (get_or S m blank) → IsSmallValue (get_or S n blank) → value_key (get_or S m blank) ≡ value_key (get_or S n blank)
+  pub tie_is : ShortLengths S lengths (length S) → SecondKeysOrNone S seconds → (m n : ℕ) → m < length S → n < length S → IsSmallValue (get_or S m blank) → IsSmallValue (get_or S n blank) → value_key (get_or S m blank) ≡ value_key (get_or S n blank)
       → tie_cmp S lengths seconds blank m n ≡ value_cmp (get_or S m blank) (get_or S n blank)
   tie_is l s m n b c p q e =
       tie_tells (get_or S m blank) (get_or S n blank) blank (slice_index lengths m) (slice_index lengths n) (slice_index seconds m) (slice_index seconds n) (length_at l m b) (length_at l n c) p q e (second_tells s m n b c p q e)
 
-  ties_tell : AreLengths S lengths (length S) → AreSecondsOrNone S seconds → (a b : ℕ × ℕ) → a.1 < length S → b.1 < length S → IsKeyOf (λ n. get_or S n blank) value_key IsSmallValue a → IsKeyOf (λ n. get_or S n blank) value_key IsSmallValue b
+  ties_tell : ShortLengths S lengths (length S) → SecondKeysOrNone S seconds → (a b : ℕ × ℕ) → a.1 < length S → b.1 < length S → IsKeyOf (λ n. get_or S n blank) value_key IsSmallValue a → IsKeyOf (λ n. get_or S n blank) value_key IsSmallValue b
       → number_ties S lengths seconds blank a b ≡ by_key value_cmp (λ n. get_or S n blank) a b
   ties_tell l s a b m n p q = elim (cases_lt a.0 b.0) [
     | inl h ↦ let g = nat_less a.0 b.0 h in rw g refl
@@ -127,7 +127,7 @@ module _ (S : List Value) (lengths seconds : List ℕ) (blank : Value) where
   ]
 
   -- what is sorted by all of these is sorted by the keys
-  pub ties_sorted : (ks : List (ℕ × ℕ)) → AreLengths S lengths (length S) → AreSecondsOrNone S seconds → All (λ (k : ℕ × ℕ). k.1 < length S) ks → All (IsKeyOf (λ n. get_or S n blank) value_key IsSmallValue) ks
+  pub ties_sorted : (ks : List (ℕ × ℕ)) → ShortLengths S lengths (length S) → SecondKeysOrNone S seconds → All (λ (k : ℕ × ℕ). k.1 < length S) ks → All (IsKeyOf (λ n. get_or S n blank) value_key IsSmallValue) ks
       → IsSortedBy (number_ties_lt S lengths seconds blank) ks → IsSortedBy (λ a b. is_lt (by_key value_cmp (λ n. get_or S n blank) a b)) ks
   ties_sorted ks l a small each s k d low h =
       let hb : k < length ks = omega (arith, h) in
@@ -135,21 +135,21 @@ module _ (S : List Value) (lengths seconds : List ℕ) (blank : Value) where
       ap is_lt (sym t) ∙ s k d low h
 
   -- two keys of one place in the order stand for one value, and others for two
-  tie_of : AreLengths S lengths (length S) → AreSecondsOrNone S seconds → (a b : ℕ × ℕ) → IsKeyIn S a → IsKeyIn S b → a.0 ≡ b.0 → tie_cmp S lengths seconds blank a.1 b.1 ≡ value_cmp (value_of S a.1) (value_of S b.1)
+  tie_of : ShortLengths S lengths (length S) → SecondKeysOrNone S seconds → (a b : ℕ × ℕ) → IsKeyIn S a → IsKeyIn S b → a.0 ≡ b.0 → tie_cmp S lengths seconds blank a.1 b.1 ≡ value_cmp (value_of S a.1) (value_of S b.1)
   tie_of l s a b p q e =
       let x = get_or_default S a.1 blank (Const []) p.below in
       let y = get_or_default S b.1 blank (Const []) q.below in
       let k : value_key (value_of S a.1) ≡ value_key (value_of S b.1) = sym p.keyed.key_is ∙ e ∙ q.keyed.key_is in
       tie_is l s a.1 b.1 p.below q.below (rw x p.keyed.small) (rw y q.keyed.small) (rw (x, y) k) ∙ (λ i. value_cmp (x i) (y i))
 
-  same_tie : AreLengths S lengths (length S) → AreSecondsOrNone S seconds → (a b : ℕ × ℕ) → IsKeyIn S a → IsKeyIn S b → a.0 ≡ b.0 → tie_cmp S lengths seconds blank a.1 b.1 ≡ Equal → value_of S a.1 ≡ value_of S b.1
+  same_tie : ShortLengths S lengths (length S) → SecondKeysOrNone S seconds → (a b : ℕ × ℕ) → IsKeyIn S a → IsKeyIn S b → a.0 ≡ b.0 → tie_cmp S lengths seconds blank a.1 b.1 ≡ Equal → value_of S a.1 ≡ value_of S b.1
   same_tie l s a b p q e t = value_exact (value_of S a.1) (value_of S b.1) (sym (tie_of l s a b p q e) ∙ t)
 
-  tie_same : AreLengths S lengths (length S) → AreSecondsOrNone S seconds → (a b : ℕ × ℕ) → IsKeyIn S a → IsKeyIn S b → a.0 ≡ b.0 → value_of S a.1 ≡ value_of S b.1 → tie_cmp S lengths seconds blank a.1 b.1 ≡ Equal
+  tie_same : ShortLengths S lengths (length S) → SecondKeysOrNone S seconds → (a b : ℕ × ℕ) → IsKeyIn S a → IsKeyIn S b → a.0 ≡ b.0 → value_of S a.1 ≡ value_of S b.1 → tie_cmp S lengths seconds blank a.1 b.1 ≡ Equal
   tie_same l s a b p q e v = tie_of l s a b p q e ∙ ap (λ (w : Value). value_cmp w (value_of S b.1)) v ∙ self_equal (value_of S b.1)
 
 -- a comparison that says whether two keys stand for one value
-pub decides : (S : List Value) (lengths seconds : List ℕ) (blank : Value) (a b : ℕ × ℕ) (o : Ordering) (t : Bool) → AreLengths S lengths (length S) → AreSecondsOrNone S seconds → IsKeyIn S a → IsKeyIn S b → a.0 ≡ b.0
+pub decides : (S : List Value) (lengths seconds : List ℕ) (blank : Value) (a b : ℕ × ℕ) (o : Ordering) (t : Bool) → ShortLengths S lengths (length S) → SecondKeysOrNone S seconds → IsKeyIn S a → IsKeyIn S b → a.0 ≡ b.0
     → o ≡ tie_cmp S lengths seconds blank a.1 b.1 → t ≡ is_eq o → IsTrue t ↔ (value_of S a.1 ≡ value_of S b.1)
 decides S lengths seconds blank a b o t l s p q e w d = rw d (by o w)
   where

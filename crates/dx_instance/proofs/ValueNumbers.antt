@@ -9,7 +9,7 @@ use Rattle.dx_model.specs.declared.values.Value.TheVariants.{Const}
 use Rattle.dx_model.specs.Covers.{same_value}
 use Rattle.dx_model.proofs.Before.{same_value-refl, same_value-true}
 use Rattle.dx_instance.specs.Cells.{numbers_at}
-use Rattle.dx_instance.specs.Numbers.{AreDistinctValues, value_of}
+use Rattle.dx_instance.specs.Numbers.{ValuesDiffer, value_of}
 use Rattle.dx_instance.specs.Stored.{TableRows, table_at, widths}
 use Rattle.dx_instance.proofs.ShownFacts.{number_same}
 
@@ -31,7 +31,7 @@ number_at (s ∷ S) v m = elim (cases_Bool (same_value s v)) [
     later (there k) n = k
 
 -- of distinct values, a place is that of the value there
-pub number_back : (S : List Value) (n : ℕ) → AreDistinctValues S → n < length S → number_of S (value_of S n) ≡ n
+pub number_back : (S : List Value) (n : ℕ) → ValuesDiffer S → n < length S → number_of S (value_of S n) ≡ n
 number_back S n apart h =
     let r = number_at S (value_of S n) (in_at S n (Const []) h) in
     number_same S (number_of S (value_of S n)) n apart r.0 h r.1

@@ -38,7 +38,7 @@ abbrev pub row_key : List ℕ → ℕ
 row_key row = fold key_step 7 row
 
 -- the places of the rows, so that no row is below one before it
-pub record AreInOrder (rows : List (List ℕ)) (places : List ℕ) : Type 0 where
+pub record PlacesInOrder (rows : List (List ℕ)) (places : List ℕ) : Type 0 where
   pub many : length places ≡ length rows
   pub within : (k : ℕ) → k < length places → slice_index places k < length rows
   pub all : (p : ℕ) → p < length rows → p ∈ places

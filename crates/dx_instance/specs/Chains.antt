@@ -22,7 +22,7 @@ pub record AreChains (c : Chains) (keys : List ℕ) : Type 0 where
 
 -- what holds of a table's parts: its first rows ascend, those after them are chained by their keys, and
 -- the indexes are those of its rows
-pub record AreTableParts (sorted : ℕ) (rows : List (List ℕ)) (c : Chains) (indexes : List ColumnIndex) : Type 0 where
+pub record TableParts (sorted : ℕ) (rows : List (List ℕ)) (c : Chains) (indexes : List ColumnIndex) : Type 0 where
   pub some : sorted ≤ length rows
   pub few : length rows < 2 ^ 32
   pub ascend : NumbersAscend (take sorted rows)

@@ -15,7 +15,7 @@ pub record IsFirstOf (part : ℕ → List ℕ) (p q : ℕ) : Type 0 where
   pub least : (r : ℕ) → r < q → ¬ (part r ≡ part p)
 
 -- the parts of the first n places, each once with the first place that has it
-pub record AreFirstParts (part : ℕ → List ℕ) (n : ℕ) (parts : Parts) : Type 0 where
+pub record PartsOfPlaces (part : ℕ → List ℕ) (n : ℕ) (parts : Parts) : Type 0 where
   pub many : length parts.places.items ≡ length parts.rows.rows
   pub few : length parts.rows.rows ≤ n
   pub kept : (p : ℕ) → p < n → part p ∈ parts.rows.rows

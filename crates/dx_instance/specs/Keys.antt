@@ -18,8 +18,8 @@ packed b (suc n) p [] = packed b n (p * b) []
 packed b (suc n) p (x ∷ xs) = packed b n (p * b + x) xs
 
 -- the first n numbers are below b
-abbrev pub AreSmall : ℕ → ℕ → List ℕ → Type 0
-AreSmall b n xs = (i : ℕ) → i < n → slice_index xs i < b
+abbrev pub AllSmall : ℕ → ℕ → List ℕ → Type 0
+AllSmall b n xs = (i : ℕ) → i < n → slice_index xs i < b
 
 -- the places of keys
 abbrev pub places_of : List (ℕ × ℕ) → List ℕ
@@ -47,7 +47,7 @@ value_key (Const t) = packed 256 8 0 t
 value_key (Null n) = 2 ^ 64 - 1
 
 abbrev pub IsSmallValue : Value → Type 0
-IsSmallValue (Const t) = AreSmall 256 8 t × (packed 256 8 0 t < 2 ^ 64)
+IsSmallValue (Const t) = AllSmall 256 8 t × (packed 256 8 0 t < 2 ^ 64)
 IsSmallValue (Null n) = Unit {0}
 
 -- the next eight bytes of a constant in one
@@ -56,7 +56,7 @@ second_key (Const t) = packed 256 8 0 (drop 8 t)
 second_key (Null n) = 2 ^ 64 - 1
 
 abbrev pub IsSmallSecond : Value → Type 0
-IsSmallSecond (Const t) = AreSmall 256 8 (drop 8 t) × (packed 256 8 0 (drop 8 t) < 2 ^ 64)
+IsSmallSecond (Const t) = AllSmall 256 8 (drop 8 t) × (packed 256 8 0 (drop 8 t) < 2 ^ 64)
 IsSmallSecond (Null n) = Unit {0}
 
 pub record IsSecondOf (v : Value) (k : ℕ) : Type 0 where
@@ -64,13 +64,13 @@ pub record IsSecondOf (v : Value) (k : ℕ) : Type 0 where
   pub small : IsSmallSecond v
 
 -- the second keys of the first n values
-pub record AreSeconds (symbols : List Value) (seconds : List ℕ) (n : ℕ) : Type 0 where
+pub record SecondKeys (symbols : List Value) (seconds : List ℕ) (n : ℕ) : Type 0 where
   pub many : length seconds ≡ n
   pub all : (k : ℕ) → k < n → IsSecondOf (value_of symbols k) (slice_index seconds k)
 
 -- the second keys of all values, or none at all: then values are compared in their place
-abbrev pub AreSecondsOrNone : List Value → List ℕ → Type 0
-AreSecondsOrNone symbols seconds = (seconds ≡ []) ⊎ AreSeconds symbols seconds (length symbols)
+abbrev pub SecondKeysOrNone : List Value → List ℕ → Type 0
+SecondKeysOrNone symbols seconds = (seconds ≡ []) ⊎ SecondKeys symbols seconds (length symbols)
 
 -- how the values at two places compare, by their second keys first
 abbrev pub long_cmp : List Value → List ℕ → Value → ℕ → ℕ → Ordering
@@ -104,17 +104,17 @@ pub record IsKeyAndPlace {X : Type 0} (at : ℕ → X) (key : X → ℕ) (Small 
   pub small : Small (at p)
 
 -- the keys of the first n items
-pub record AreKeyed {X : Type 0} (at : ℕ → X) (key : X → ℕ) (Small : X → Type 0) (keys : List (ℕ × ℕ))
+pub record KeysOfFirst {X : Type 0} (at : ℕ → X) (key : X → ℕ) (Small : X → Type 0) (keys : List (ℕ × ℕ))
     (n : ℕ) : Type 0 where
   pub many : length keys ≡ n
   pub all : (k : ℕ) → k < n → IsKeyAndPlace at key Small k (slice_index_or keys k (0, 0))
 
 -- the keys of rows: their first n numbers, as digits to the base b
 abbrev pub RowsAreKeyed : ℕ → ℕ → List (List ℕ) → List (ℕ × ℕ) → ℕ → Type 0
-RowsAreKeyed b n rows keys many = AreKeyed (numbers_at rows) (packed b n 0) (AreSmall b n) keys many
+RowsAreKeyed b n rows keys many = KeysOfFirst (numbers_at rows) (packed b n 0) (AllSmall b n) keys many
 
 abbrev pub ValuesAreKeyed : List Value → List (ℕ × ℕ) → ℕ → Type 0
-ValuesAreKeyed symbols keys n = AreKeyed (value_of symbols) value_key IsSmallValue keys n
+ValuesAreKeyed symbols keys n = KeysOfFirst (value_of symbols) value_key IsSmallValue keys n
 
 -- the numbers of these keys have values of which they are the keys
 abbrev pub NumbersAreKeyed : List Value → List (ℕ × ℕ) → Type 0
@@ -128,7 +128,7 @@ pub record IsKeyIn (symbols : List Value) (k : ℕ × ℕ) : Type 0 where
   pub keyed : IsKeyAndPlace (value_of symbols) value_key IsSmallValue k.1 k
 
 -- all numbers, of which none stands after one with a higher value
-pub record AreSorted (symbols : List Value) (numbers : List ℕ) : Type 0 where
+pub record SortsNumbers (symbols : List Value) (numbers : List ℕ) : Type 0 where
   pub many : length numbers ≡ length symbols
   pub within : (k : ℕ) → k < length numbers → slice_index numbers k < length symbols
   pub all : (n : ℕ) → n < length symbols → n ∈ numbers

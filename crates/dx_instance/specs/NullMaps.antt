@@ -68,7 +68,7 @@ abbrev pub NoPairIsItself : List NullPair → Type 0
 NoPairIsItself ps = Each ps (λ (p : NullPair). ¬ (p.value ≡ Null p.null))
 
 -- what holds of ascending pairs and of a tree, one of which has all that a null map lists
-pub record AreStored (pairs : List NullPair) (tree : List (NullId × Value)) : Type 0 where
+pub record StoresNulls (pairs : List NullPair) (tree : List (NullId × Value)) : Type 0 where
   pub ascend : PairsAscend pairs
   pub proper : NoPairIsItself pairs
   pub others : NoneIsItself tree

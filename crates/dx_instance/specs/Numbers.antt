@@ -14,8 +14,8 @@ abbrev pub value_of : List Value → ℕ → Value
 value_of symbols n = slice_index_or symbols n (Const [])
 
 -- no value stands at two places
-abbrev pub AreDistinctValues : List Value → Type 0
-AreDistinctValues symbols = AllPairs (λ v w. ¬ (v ≡ w)) symbols
+abbrev pub ValuesDiffer : List Value → Type 0
+ValuesDiffer symbols = AllPairs (λ v w. ¬ (v ≡ w)) symbols
 
 -- each value is below all that follow, so numbers compare as their values
 abbrev pub ValuesAscend : List Value → Type 0

@@ -4,7 +4,7 @@ use Rattle.std.specs.Prelude.{drop, length, map, slice_index, slice_index_or, ta
 use Rattle.dx_base.specs.Members.{Each}
 use Rattle.dx_model.specs.declared.values.Value.{Value}
 use Rattle.dx_model.specs.declared.values.Value.TheVariants.{Const, Null}
-use Rattle.dx_instance.specs.Keys.{AreSecondsOrNone, NumbersAreKeyed, places_of}
+use Rattle.dx_instance.specs.Keys.{SecondKeysOrNone, NumbersAreKeyed, places_of}
 use Rattle.dx_instance.specs.Numbers.{ValuesAscend, value_of}
 
 -- a number is ranked by a place at which a key of its value stands
@@ -13,27 +13,27 @@ pub record HasRank (symbols : List Value) (firsts : List (ℕ × ℕ)) (ranks : 
   pub is : value_of symbols (slice_index (places_of firsts) (slice_index ranks n)) ≡ value_of symbols n
 
 -- keys of distinct values in order
-pub record AreFirstKeys (symbols : List Value) (firsts : List (ℕ × ℕ)) : Type 0 where
+pub record DistinctKeys (symbols : List Value) (firsts : List (ℕ × ℕ)) : Type 0 where
   pub ascend : ValuesAscend (map (value_of symbols) (places_of firsts))
   pub below : Each (places_of firsts) (λ n. n < length symbols)
   pub keyed : NumbersAreKeyed symbols firsts
 
 -- the first keys of each value among i numbers, and the ranks of these numbers: the last number has the last value
-pub record AreRankFirsts (symbols : List Value) (numbers : List ℕ) (firsts : List (ℕ × ℕ))
+pub record RankFirsts (symbols : List Value) (numbers : List ℕ) (firsts : List (ℕ × ℕ))
     (ranks : List ℕ) (i : ℕ) : Type 0 where
   pub fewer : length firsts ≤ i
   pub many : length ranks ≡ length symbols
-  pub keys : AreFirstKeys symbols firsts
+  pub keys : DistinctKeys symbols firsts
   pub last : 0 < i → (0 < length firsts)
       × (value_of symbols (slice_index (places_of firsts) (length firsts - 1))
       ≡ value_of symbols (slice_index numbers (i - 1)))
   pub ranked : (k : ℕ) → k < i → HasRank symbols firsts ranks (slice_index numbers k)
 
 -- the keys of the distinct values in order, and the rank of each number
-pub record AreDistinct (symbols : List Value) (firsts : List (ℕ × ℕ)) (ranks : List ℕ) : Type 0 where
+pub record DistinctRanks (symbols : List Value) (firsts : List (ℕ × ℕ)) (ranks : List ℕ) : Type 0 where
   pub fewer : length firsts ≤ length symbols
   pub many : length ranks ≡ length symbols
-  pub keys : AreFirstKeys symbols firsts
+  pub keys : DistinctKeys symbols firsts
   pub ranked : (n : ℕ) → n < length symbols → HasRank symbols firsts ranks n
 
 -- the text of a constant; a null has none
@@ -59,7 +59,7 @@ pub record IsShortLength (v : Value) (n : ℕ) : Type 0 where
   pub utf8 : IsUtf8 (text_of_value v)
 
 -- the short lengths of the texts of the first n values
-pub record AreLengths (symbols : List Value) (lengths : List ℕ) (n : ℕ) : Type 0 where
+pub record ShortLengths (symbols : List Value) (lengths : List ℕ) (n : ℕ) : Type 0 where
   pub many : length lengths ≡ n
   pub all : (k : ℕ) → k < n → IsShortLength (value_of symbols k) (slice_index lengths k)
 
@@ -72,7 +72,7 @@ abbrev pub texts_before : List Value → List (ℕ × ℕ) → ℕ → List ℕ
 texts_before symbols keys i = joined_texts (map (value_of symbols) (places_of (take i keys)))
 
 -- where the texts of the values under the numbers of the first i keys end
-pub record AreEnds (symbols : List Value) (keys : List (ℕ × ℕ)) (ends : List ℕ) (i : ℕ) : Type 0 where
+pub record EndsOfTexts (symbols : List Value) (keys : List (ℕ × ℕ)) (ends : List ℕ) (i : ℕ) : Type 0 where
   pub many : length ends ≡ i
   pub at : (k : ℕ) → k < i → slice_index ends k ≡ length (texts_before symbols keys (k + 1))
   pub utf8 : (k : ℕ) → k < i → IsUtf8 (text_of_value (value_of symbols (slice_index_or keys k (0, 0)).1))
@@ -85,6 +85,6 @@ pub record LiesInBuffer (buffer : List ℕ) (start end : ℕ) (text : List ℕ) 
   pub utf8 : IsUtf8 text
 
 -- the short lengths of the texts of values, and their second keys or none at all
-pub record AreTieKeys (symbols : List Value) (lengths seconds : List ℕ) : Type 0 where
-  pub lengths_are : AreLengths symbols lengths (length symbols)
-  pub seconds_are : AreSecondsOrNone symbols seconds
+pub record TieKeys (symbols : List Value) (lengths seconds : List ℕ) : Type 0 where
+  pub lengths_are : ShortLengths symbols lengths (length symbols)
+  pub seconds_are : SecondKeysOrNone symbols seconds

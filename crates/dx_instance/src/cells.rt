@@ -3,9 +3,9 @@ ghost use Rattle.std.specs.Prelude.{◌≡◌, ◌<◌, ◌≤◌, ◌-◌, ◌*
 ghost use Rattle.std.specs.Bool.{OnTrue};
 ghost use Rattle.dx_base.specs.Members.{Each};
 ghost use Rattle.dx_instance.specs.Chains.{AreChains};
-ghost use Rattle.dx_instance.specs.Cells.{AreInOrder, IsOrderOf, NumbersAscend, numbers_at, rows_of_cells, with_numbers};
+ghost use Rattle.dx_instance.specs.Cells.{PlacesInOrder, IsOrderOf, NumbersAscend, numbers_at, rows_of_cells, with_numbers};
 ghost use Rattle.dx_instance.specs.Keys.{HasBits, DigitsFit, RowsAreKeyed, packed, places_of, unpacked};
-ghost use Rattle.dx_instance.specs.Shown.{AreBelow, renumbered};
+ghost use Rattle.dx_instance.specs.Shown.{NumbersBelow, renumbered};
 
 use crate::chains::Chains;
 use crate::packing::{Packing, RowPacking};
@@ -150,7 +150,7 @@ impl Rows {
 
     // A number that is above all numbers of the rows.
     fn bound(&self) -> u64
-        ensures below { Each self.now.rows (AreBelow result) }
+        ensures below { Each self.now.rows (NumbersBelow result) }
         ensures small { result ≤ 2 ^ 32 }
     {
         let mut bound = 0u64;
@@ -163,7 +163,7 @@ impl Rows {
     // The place of each row, with a key that compares as the first numbers of the row.
     fn keyed_places(&self, alloc: Global, packing: Packing) -> Result<Vec<(u64, u32)>, AllocError>
         requires room { DigitsFit packing.base packing.digits }
-        requires below { Each self.now.rows (AreBelow packing.base) }
+        requires below { Each self.now.rows (NumbersBelow packing.base) }
         ensures { IfOk result (λ keys. RowsAreKeyed packing.base packing.digits self.now.rows keys.items (length self.now.rows)) }
     {
         let mut keys = Vec::with_capacity(alloc, self.count as usize)?;
@@ -175,7 +175,7 @@ impl Rows {
 
     // The places in the order of their rows, with their keys.
     fn places_in_order(&self, alloc: Global) -> Result<Vec<(u64, u32)>, AllocError>
-        ensures { IfOk result (λ keys. AreInOrder self.now.rows (places_of keys.items)) }
+        ensures { IfOk result (λ keys. PlacesInOrder self.now.rows (places_of keys.items)) }
     {
         let mut keys = self.keyed_places(alloc, Packing::below(self.bound()))?;
         keys.sort_unstable_by(|a, b| match a.0.cmp(&b.0) {
@@ -211,7 +211,7 @@ impl Rows {
     // Each row as one number.
     fn packed_rows(&self, alloc: Global, packing: RowPacking) -> Result<Vec<u64>, AllocError>
         requires room { HasBits packing.bits packing.width }
-        requires below { Each self.now.rows (AreBelow (2 ^ packing.bits)) }
+        requires below { Each self.now.rows (NumbersBelow (2 ^ packing.bits)) }
         ensures keys { IfOk result (λ keys. keys.items ≡ map (packed (2 ^ packing.bits) packing.width 0) self.now.rows) }
         ensures few { IfOk result (λ keys. length keys.items < 2 ^ 32) }
 
@@ -248,7 +248,7 @@ impl Rows {
     fn in_order_by_keys(&self, alloc: Global, packing: RowPacking) -> Result<Rows, AllocError>
         requires room { HasBits packing.bits packing.width }
         requires width { packing.width ≡ self.now.width }
-        requires below { Each self.now.rows (AreBelow (2 ^ packing.bits)) }
+        requires below { Each self.now.rows (NumbersBelow (2 ^ packing.bits)) }
         ensures { IfOk result (λ r. IsOrderOf self.now r) }
     {
         let mut keys = self.packed_rows(alloc, packing)?;
@@ -292,7 +292,7 @@ impl Rows {
 
     /// The rows with ranks in the place of numbers.
     pub fn renumbered(&self, alloc: Global, ranks: &[u32]) -> Result<Rows, AllocError>
-        requires { Each self.now.rows (AreBelow (length ranks.now)) }
+        requires { Each self.now.rows (NumbersBelow (length ranks.now)) }
         ensures { IfOk result (λ r. r ≡ renumbered ranks.now self.now) }
     {
         let mut cells = Vec::with_capacity(alloc, self.cells.len())?;
@@ -308,7 +308,7 @@ impl Rows {
 
     /// The same as `renumbered`, of rows that are given away, in their own memory.
     pub(crate) fn into_renumbered(self, ranks: &[u32]) -> Rows
-        requires { Each self.rows (AreBelow (length ranks.now)) }
+        requires { Each self.rows (NumbersBelow (length ranks.now)) }
         ensures { result ≡ renumbered ranks.now self }
     {
         let mut cells = self.cells;

@@ -1,7 +1,7 @@
 // The first rows that have the numbers of others in some columns.
 ghost use Rattle.std.specs.Prelude.{◌≡◌, ◌<◌, ◌+◌, ◌-◌, ◌^◌, [], ℕ, List, IfOk, OnOk, length, map, slice_index};
 ghost use Rattle.dx_base.specs.Members.{Each};
-ghost use Rattle.dx_instance.specs.Firsts.{AreFirstParts, IsFirstOf, part_at};
+ghost use Rattle.dx_instance.specs.Firsts.{PartsOfPlaces, IsFirstOf, part_at};
 
 use crate::table::Table;
 use std::alloc::{AllocError, Global};
@@ -31,9 +31,9 @@ impl Parts {
         requires room { length self.old.rows.rows < 2 ^ 32 - 1 }
         requires places { length self.old.places.items ≡ length self.old.rows.rows }
         ensures width { OnOk result (self.new.rows.width ≡ self.old.rows.width) }
-        ensures first { (f : ℕ → List ℕ) → f place ≡ part.now → AreFirstParts f place self.old → IfOk result (IsFirstOf f place) }
-        ensures parts { (f : ℕ → List ℕ) → f place ≡ part.now → AreFirstParts f place self.old → OnOk result
-            (AreFirstParts f (place + 1) self.new) }
+        ensures first { (f : ℕ → List ℕ) → f place ≡ part.now → PartsOfPlaces f place self.old → IfOk result (IsFirstOf f place) }
+        ensures parts { (f : ℕ → List ℕ) → f place ≡ part.now → PartsOfPlaces f place self.old → OnOk result
+            (PartsOfPlaces f (place + 1) self.new) }
     {
         if let Some(at) = self.rows.find(part) {
             return Ok(self.places[at as usize]);

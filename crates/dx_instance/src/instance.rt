@@ -5,8 +5,8 @@ ghost use Rattle.dx_base.specs.Members.{Distinct, Each, ◌∈◌, ◌≈◌};
 ghost use Rattle.dx_model.specs.Values.{FactsAscend, RowsAscend};
 ghost use Rattle.dx_instance.specs.Stored.{AddsRow, IsSorting, facts, rows_of, table_at, without_rows};
 ghost use Rattle.dx_instance.specs.Images.{AreImages, IsImage, IsImageNumber};
-ghost use Rattle.dx_instance.specs.Numbers.{AreDistinctValues, Extends, value_of};
-ghost use Rattle.dx_instance.specs.Shown.{AreBelow, NumbersFit, PartsFit, NumberRowsFit, Shows, renumbered, shown_row, shown_tables};
+ghost use Rattle.dx_instance.specs.Numbers.{ValuesDiffer, Extends, value_of};
+ghost use Rattle.dx_instance.specs.Shown.{NumbersBelow, NumbersFit, PartsFit, NumberRowsFit, Shows, renumbered, shown_row, shown_tables};
 ghost use Rattle.dx_instance.specs.Places.{AreFirsts, HasValues, IsFirstWith, row_at, rows_with, value_at};
 
 use crate::cells::Rows;
@@ -44,12 +44,12 @@ impl Model for Instance {
 
 // The number of a value, which goes last in the symbols if it is new.
 fn interned(symbols: &mut Symbols, value: &Value) -> Result<u32, AllocError>
-    requires apart { AreDistinctValues symbols.old }
+    requires apart { ValuesDiffer symbols.old }
     requires few { length symbols.old < 2 ^ 32 }
     ensures within { IfOk result (λ n. n < length symbols.new) }
     ensures number { IfOk result (λ n. value_of symbols.new n ≡ value.now) }
     ensures grows { Extends symbols.old symbols.new }
-    ensures apart { AreDistinctValues symbols.new }
+    ensures apart { ValuesDiffer symbols.new }
     ensures few { length symbols.new < 2 ^ 32 }
 {
     if let Some(number) = symbols.find(value) {
@@ -65,11 +65,11 @@ fn interned_all(
     symbols: &mut Symbols,
     values: &[Value],
 ) -> Result<Vec<u32>, AllocError>
-    requires apart { AreDistinctValues symbols.old }
+    requires apart { ValuesDiffer symbols.old }
     requires few { length symbols.old < 2 ^ 32 }
     ensures shows { IfOk result (λ numbers. Shows symbols.new numbers.items values.now) }
     ensures grows { Extends symbols.old symbols.new }
-    ensures apart { AreDistinctValues symbols.new }
+    ensures apart { ValuesDiffer symbols.new }
     ensures few { length symbols.new < 2 ^ 32 }
 {
     let mut numbers = Vec::with_capacity(alloc, values.len())?;
@@ -86,10 +86,10 @@ fn images_of(
     map: &NullMap,
     into: &mut Symbols,
 ) -> Result<Vec<u32>, AllocError>
-    requires apart { AreDistinctValues into.old }
+    requires apart { ValuesDiffer into.old }
     requires few { length into.old < 2 ^ 32 }
     ensures images { IfOk result (λ images. AreImages map.now symbols.now into.new images.items (length symbols.now)) }
-    ensures apart { AreDistinctValues into.new }
+    ensures apart { ValuesDiffer into.new }
     ensures few { length into.new < 2 ^ 32 }
 {
     let mut images = Vec::with_capacity(alloc, symbols.len() as usize)?;
@@ -626,7 +626,7 @@ fn find_all(symbols: &Symbols, values: &[Value], numbers: &mut [u32]) -> bool
 
 // Whether the numbers show these values.
 fn shows(symbols: &Symbols, numbers: &[u32], values: &[Value]) -> bool
-    requires { AreBelow (length symbols.now) numbers.now }
+    requires { NumbersBelow (length symbols.now) numbers.now }
     ensures { IsTrue result ↔ (shown_row symbols.now numbers.now ≡ values.now) }
 {
     if numbers.len() != values.len() {
@@ -642,7 +642,7 @@ fn shows(symbols: &Symbols, numbers: &[u32], values: &[Value]) -> bool
 
 // A row of the values that the numbers show.
 fn shown_values(alloc: Global, symbols: &Symbols, numbers: &[u32]) -> Result<Row, AllocError>
-    requires { AreBelow (length symbols.now) numbers.now }
+    requires { NumbersBelow (length symbols.now) numbers.now }
     ensures { IfOk result (λ row. row ≡ shown_row symbols.now numbers.now) }
 {
     let mut row = Row::new(alloc);

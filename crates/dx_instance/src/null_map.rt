@@ -24,7 +24,7 @@ impl Model for NullMap {
     ghost use Rattle.std.specs.FinMap as finite;
     ghost use Rattle.std.specs.Prelude.{◌++◌};
     ghost use Rattle.dx_model.specs.contracts.values.Value as value;
-    ghost use Rattle.dx_instance.specs.NullMaps.{AreStored, ByNull, coded_null, entries_in, map_of_entries};
+    ghost use Rattle.dx_instance.specs.NullMaps.{StoresNulls, ByNull, coded_null, entries_in, map_of_entries};
 
     ghost Value = { ByNull };
 
@@ -32,7 +32,7 @@ impl Model for NullMap {
 
     ghost view = { λ m. map_of_entries (m.tree.entries ++ entries_in m.pairs.items) };
 
-    ghost invariant = { λ m. AreStored m.pairs.items m.tree.entries };
+    ghost invariant = { λ m. StoresNulls m.pairs.items m.tree.entries };
 }
 
 // Gives a null a value in a tree. A null that gets itself is taken out.

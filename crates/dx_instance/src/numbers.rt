@@ -4,7 +4,7 @@ ghost use Rattle.std.specs.Bool.{OnTrue};
 ghost use Rattle.dx_instance.specs.Cells.{IsPlaceOf, numbers_at};
 ghost use Rattle.dx_instance.specs.Indexes.{IsNextWithNumber};
 ghost use Rattle.dx_instance.specs.Numbers.{IsConstant, IsNumberOf, IsSomeNull, ValuesAscend, value_of};
-ghost use Rattle.dx_instance.specs.Shown.{AreBelow, PartsFit, numbers_of_table};
+ghost use Rattle.dx_instance.specs.Shown.{NumbersBelow, PartsFit, numbers_of_table};
 
 use crate::symbols::Symbols;
 use crate::table::Table;
@@ -115,7 +115,7 @@ impl<'a> Numbers<'a> {
         requires place { place < length (numbers_of_table self.now.tables table).rows }
         ensures row { result.now ≡ numbers_at (numbers_of_table self.now.tables table).rows place }
         ensures width { length result.now ≡ (numbers_of_table self.now.tables table).width }
-        ensures below { AreBelow (length self.now.symbols) result.now }
+        ensures below { NumbersBelow (length self.now.symbols) result.now }
     {
         let tables = self.tables;
         tables[table as usize].row(place)

@@ -3,9 +3,9 @@ ghost use Rattle.std.specs.Prelude.{◌≡◌, ◌≤◌, ◌-◌, ◌<◌, ◌^
 ghost use Rattle.std.specs.Int.{to_be_bytes, w64};
 ghost use Rattle.dx_base.specs.Members.{Each};
 ghost use Rattle.dx_model.specs.declared.values.Value.TheVariants.{Const};
-ghost use Rattle.dx_instance.specs.Keys.{AreSmall, IsKeyIn, IsSmallSecond, IsSmallValue, NumbersAreKeyed, ValuesAreKeyed, packed, places_of, second_key, value_key};
+ghost use Rattle.dx_instance.specs.Keys.{AllSmall, IsKeyIn, IsSmallSecond, IsSmallValue, NumbersAreKeyed, ValuesAreKeyed, packed, places_of, second_key, value_key};
 ghost use Rattle.dx_instance.specs.Numbers.{IsOrdering, value_of};
-ghost use Rattle.dx_instance.specs.Ranks.{AreDistinct, AreEnds, AreLengths, IsShortLength, LiesInBuffer, joined_texts, text_of_value};
+ghost use Rattle.dx_instance.specs.Ranks.{DistinctRanks, EndsOfTexts, ShortLengths, IsShortLength, LiesInBuffer, joined_texts, text_of_value};
 
 use crate::hints::hints_of;
 use crate::layer::Layer;
@@ -34,7 +34,7 @@ fn byte_or_zero(text: &[u8], place: usize) -> u8
 // A number that compares as the first eight bytes of a text.
 fn first_bytes(text: &[u8]) -> u64
     ensures key { result ≡ packed 256 8 0 text.now }
-    ensures small { AreSmall 256 8 text.now }
+    ensures small { AllSmall 256 8 text.now }
 {
     let mut key = 0u64;
     for i in 0..8usize {
@@ -57,7 +57,7 @@ pub(crate) fn key_of(value: &Value) -> u64
 // A number that compares as the bytes of a text from the ninth to the sixteenth.
 fn second_bytes(text: &[u8]) -> u64
     ensures key { result ≡ packed 256 8 0 (drop 8 text.now) }
-    ensures small { AreSmall 256 8 (drop 8 text.now) }
+    ensures small { AllSmall 256 8 (drop 8 text.now) }
 {
     if text.len() > 8 {
         first_bytes(&text[8..])
@@ -94,7 +94,7 @@ fn short_length(value: &Value) -> u8
 // short. Both are read in one walk, since the texts may lie far apart.
 fn keyed_numbers(alloc: Global, symbols: &Values) -> Result<(Vec<(u64, u32)>, Vec<u8>), AllocError>
     ensures keyed { IfOk result (λ r. ValuesAreKeyed symbols.now r.0.items (length symbols.now)) }
-    ensures lengths { IfOk result (λ r. AreLengths symbols.now r.1.items (length symbols.now)) }
+    ensures lengths { IfOk result (λ r. ShortLengths symbols.now r.1.items (length symbols.now)) }
     ensures few { length symbols.now < 2 ^ 32 }
 {
     let count = symbols.len();
@@ -117,8 +117,8 @@ fn distinct_in_order(
 ) -> Result<(Vec<(u64, u32)>, Vec<u32>), AllocError>
     requires few { length symbols.now < 2 ^ 32 }
     requires keyed { ValuesAreKeyed symbols.now keys.items (length symbols.now) }
-    requires lengths { AreLengths symbols.now lengths.now (length symbols.now) }
-    ensures { IfOk result (λ r. AreDistinct symbols.now r.0.items r.1.items) }
+    requires lengths { ShortLengths symbols.now lengths.now (length symbols.now) }
+    ensures { IfOk result (λ r. DistinctRanks symbols.now r.0.items r.1.items) }
 {
     let ties = Ties::new(alloc, symbols, lengths)?;
     let keys = ties.in_order(keys);
@@ -175,9 +175,9 @@ fn texts_in_order(
 ) -> Result<Option<(Vec<u8>, Vec<u32>)>, AllocError>
     requires below { Each (places_of keys.now) (λ n. n < length symbols.now) }
     requires keyed { NumbersAreKeyed symbols.now keys.now }
-    requires lengths { AreLengths symbols.now lengths.now (length symbols.now) }
+    requires lengths { ShortLengths symbols.now lengths.now (length symbols.now) }
     ensures texts { IfOk result (λ o. IfSome o (λ t. t.0.items ≡ joined_texts (map (value_of symbols.now) (places_of keys.now)))) }
-    ensures ends { IfOk result (λ o. IfSome o (λ t. AreEnds symbols.now keys.now t.1.items (length keys.now))) }
+    ensures ends { IfOk result (λ o. IfSome o (λ t. EndsOfTexts symbols.now keys.now t.1.items (length keys.now))) }
 {
     let mut buffer = Vec::with_capacity(alloc, room_for(lengths))?;
     let mut ends = Vec::with_capacity(alloc, keys.len())?;
@@ -234,7 +234,7 @@ fn values_in(
 ) -> Result<Vec<Value>, AllocError>
     requires below { Each (places_of keys.now) (λ n. n < length symbols.now) }
     requires texts { string_bytes buffer.now.value ≡ joined_texts (map (value_of symbols.now) (places_of keys.now)) }
-    requires ends { AreEnds symbols.now keys.now ends.now (length keys.now) }
+    requires ends { EndsOfTexts symbols.now keys.now ends.now (length keys.now) }
     ensures { IfOk result (λ values. values.items ≡ map (value_of symbols.now) (places_of keys.now)) }
 {
     let mut values = Vec::with_capacity(alloc, keys.len())?;
@@ -285,7 +285,7 @@ fn values_in_order(
 ) -> Result<Vec<Value>, AllocError>
     requires below { Each (places_of keys.now) (λ n. n < length symbols.now) }
     requires keyed { NumbersAreKeyed symbols.now keys.now }
-    requires lengths { AreLengths symbols.now lengths.now (length symbols.now) }
+    requires lengths { ShortLengths symbols.now lengths.now (length symbols.now) }
     ensures { IfOk result (λ values. values.items ≡ map (value_of symbols.now) (places_of keys.now)) }
 {
     let Some((bytes, ends)) = texts_in_order(alloc, symbols, keys, lengths)? else {

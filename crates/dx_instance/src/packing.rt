@@ -1,7 +1,7 @@
 // The first numbers of a row as one number.
 ghost use Rattle.std.specs.Prelude.{◌≡◌, ◌<◌, ◌≤◌, ◌^◌, ◌++◌, IfSome, OnOk, slice_index};
-ghost use Rattle.dx_instance.specs.Keys.{AreSmall, HasBits, DigitsFit, packed, unpacked};
-ghost use Rattle.dx_instance.specs.Shown.{AreBelow};
+ghost use Rattle.dx_instance.specs.Keys.{AllSmall, HasBits, DigitsFit, packed, unpacked};
+ghost use Rattle.dx_instance.specs.Shown.{NumbersBelow};
 
 use std::alloc::AllocError;
 
@@ -32,9 +32,9 @@ impl Packing {
     /// A number that compares as the first numbers of the row.
     pub(crate) fn key_of(self, row: &[u32]) -> u64
         requires room { DigitsFit self.base self.digits }
-        requires below { AreBelow self.base row.now }
+        requires below { NumbersBelow self.base row.now }
         ensures key { result ≡ packed self.base self.digits 0 row.now }
-        ensures small { AreSmall self.base self.digits row.now }
+        ensures small { AllSmall self.base self.digits row.now }
     {
         let mut key = 0u64;
         for i in 0..self.digits {
@@ -71,7 +71,7 @@ impl RowPacking {
     /// The row as one number. It compares as the row.
     pub(crate) fn key_of(self, row: &[u32]) -> u64
         requires room { HasBits self.bits self.width }
-        requires below { AreBelow (2 ^ self.bits) row.now }
+        requires below { NumbersBelow (2 ^ self.bits) row.now }
         ensures { result ≡ packed (2 ^ self.bits) self.width 0 row.now }
     {
         let packing = Packing {

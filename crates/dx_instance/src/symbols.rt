@@ -4,7 +4,7 @@ ghost use Rattle.std.specs.Bool.{OnTrue};
 ghost use Rattle.std.specs.declared.cmp.Ordering.TheVariants.{Less};
 ghost use Rattle.dx_base.specs.Members.{Each, ◌∈◌};
 ghost use Rattle.dx_model.specs.Values.{value_cmp};
-ghost use Rattle.dx_instance.specs.Numbers.{AreDistinctValues, Extends, IsConstant, IsNumberOf, IsOrdering, IsSomeNull, ValuesAscend, value_of};
+ghost use Rattle.dx_instance.specs.Numbers.{ValuesDiffer, Extends, IsConstant, IsNumberOf, IsOrdering, IsSomeNull, ValuesAscend, value_of};
 
 use crate::hints::hint_of;
 use crate::layer::Layer;
@@ -29,14 +29,14 @@ pub struct Symbols {
 impl Model for Symbols {
     ghost use Rattle.std.specs.Prelude.{List, ◌++◌, ◌<◌, ◌^◌, length};
     ghost use Rattle.dx_model.specs.declared.values.Value.{Value as Cell};
-    ghost use Rattle.dx_instance.specs.Numbers.{AreDistinctValues, ValuesAscend};
+    ghost use Rattle.dx_instance.specs.Numbers.{ValuesDiffer, ValuesAscend};
 
     ghost Value = { List Cell };
 
     ghost view = { λ s. s.ordered ++ s.greater.items ++ s.later.keys };
 
     ghost invariant = { λ s. ValuesAscend (s.ordered ++ s.greater.items)
-        × AreDistinctValues (s.ordered ++ s.greater.items ++ s.later.keys)
+        × ValuesDiffer (s.ordered ++ s.greater.items ++ s.later.keys)
         × (length (s.ordered ++ s.greater.items ++ s.later.keys) < 2 ^ 32) };
 }
 
@@ -110,7 +110,7 @@ impl Symbols {
         ensures len { result ≡ length self.now }
 
         // What holds of all symbols.
-        ensures apart { AreDistinctValues self.now }
+        ensures apart { ValuesDiffer self.now }
         ensures few { length self.now < 2 ^ 32 }
     {
         (self.ordered.values().len() + self.greater.len() + self.later.len()) as u64
@@ -211,7 +211,7 @@ impl Symbols {
         ensures fresh { OnOk result (¬ (value ∈ self.old) → self.new ≡ self.old ++ value ∷ []) }
         ensures err { OnErr result (self.new ≡ self.old) }
         ensures grows { Extends self.old self.new }
-        ensures apart { AreDistinctValues self.new }
+        ensures apart { ValuesDiffer self.new }
         ensures few { length self.new < 2 ^ 32 }
     {
         let ordered = self.ordered.values();
@@ -305,7 +305,7 @@ fn copies_of(alloc: Global, values: &[Value]) -> Result<Vec<Value>, AllocError>
 
 // Copies of distinct values as a set, in the same order.
 fn set_of(alloc: Global, values: &[Value]) -> Result<IndexSet<Value>, AllocError>
-    requires { AreDistinctValues values.now }
+    requires { ValuesDiffer values.now }
     ensures { IfOk result (λ set. set.keys ≡ values.now) }
 {
     let mut set = IndexSet::new(alloc);

@@ -2,7 +2,7 @@
 ghost use Rattle.std.specs.Prelude.{◌≡◌, ◌≤◌, ◌<◌, ◌-◌, ◌^◌, [], IfOk, IfSome, OnErr, MatchBool, length, map, take, drop};
 ghost use Rattle.std.specs.Bool.{OnTrue};
 ghost use Rattle.dx_base.specs.Members.{Each, ◌∈◌};
-ghost use Rattle.dx_instance.specs.Shown.{AreBelow, renumbered};
+ghost use Rattle.dx_instance.specs.Shown.{NumbersBelow, renumbered};
 ghost use Rattle.dx_instance.specs.Cells.{IsPlaceOf, IsPut, NumbersAscend, row_key, numbers_at, with_numbers};
 ghost use Rattle.dx_instance.specs.Chains.{AreChains};
 ghost use Rattle.dx_instance.specs.Indexes.{IsNextWithNumber};
@@ -25,13 +25,13 @@ pub struct Table {
 
 impl Model for Table {
     ghost use Rattle.dx_instance.specs.Cells.{NumberTable};
-    ghost use Rattle.dx_instance.specs.Chains.{AreTableParts};
+    ghost use Rattle.dx_instance.specs.Chains.{TableParts};
 
     ghost Value = { NumberTable };
 
     ghost view = { λ t. t.rows };
 
-    ghost invariant = { λ t. AreTableParts t.sorted t.rows.rows t.chains t.indexes.items };
+    ghost invariant = { λ t. TableParts t.sorted t.rows.rows t.chains t.indexes.items };
 }
 
 // The number by which a row is looked up.
@@ -219,7 +219,7 @@ impl Table {
     ///
     /// `AllocError` if there is no memory.
     pub fn renumbered(&self, alloc: Global, images: &[u32]) -> Result<Rows, AllocError>
-        requires { Each self.now.rows (AreBelow (length images.now)) }
+        requires { Each self.now.rows (NumbersBelow (length images.now)) }
         ensures { IfOk result (λ r. r ≡ renumbered images.now self.now) }
     {
         self.rows.renumbered(alloc, images)

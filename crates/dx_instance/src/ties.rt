@@ -1,8 +1,8 @@
 // Values whose keys are equal, told apart by the lengths of their texts and by second keys.
 ghost use Rattle.std.specs.Prelude.{◌≡◌, ◌<◌, ◌-◌, ◌^◌, ◌↔◌, IfOk, IsTrue, MatchBool, length, slice_index, slice_index_or};
-ghost use Rattle.dx_instance.specs.Keys.{AreSeconds, AreSecondsOrNone, AreSorted, IsKeyIn, IsRepeat, IsRise, NumbersAreKeyed, ValuesAreKeyed, long_cmp, places_of, tie_cmp};
+ghost use Rattle.dx_instance.specs.Keys.{SecondKeys, SecondKeysOrNone, SortsNumbers, IsKeyIn, IsRepeat, IsRise, NumbersAreKeyed, ValuesAreKeyed, long_cmp, places_of, tie_cmp};
 ghost use Rattle.dx_instance.specs.Numbers.{value_of};
-ghost use Rattle.dx_instance.specs.Ranks.{AreDistinct, AreLengths, AreTieKeys};
+ghost use Rattle.dx_instance.specs.Ranks.{DistinctRanks, ShortLengths, TieKeys};
 
 use crate::ordering::second_key_of;
 use crate::values::Values;
@@ -12,7 +12,7 @@ use std::cmp::Ordering;
 
 // The second key of each number.
 fn second_keys(alloc: Global, symbols: &Values) -> Result<Vec<u64>, AllocError>
-    ensures { IfOk result (λ seconds. AreSeconds symbols.now seconds.items (length symbols.now)) }
+    ensures { IfOk result (λ seconds. SecondKeys symbols.now seconds.items (length symbols.now)) }
 {
     let count = symbols.len();
     let mut seconds = Vec::with_capacity(alloc, count as usize)?;
@@ -34,7 +34,7 @@ fn any_long(lengths: &[u8]) -> bool {
 
 // The second key of each number, or none at all if no text has a second one: then values are compared at once.
 fn seconds_if_long(alloc: Global, symbols: &Values, lengths: &[u8]) -> Result<Vec<u64>, AllocError>
-    ensures { IfOk result (λ seconds. AreSecondsOrNone symbols.now seconds.items) }
+    ensures { IfOk result (λ seconds. SecondKeysOrNone symbols.now seconds.items) }
 {
     if !any_long(lengths) {
         return Ok(Vec::new(alloc));
@@ -86,9 +86,9 @@ impl<'a> Ties<'a> {
         values: &'a Values<'a>,
         lengths: &'a [u8],
     ) -> Result<Ties<'a>, AllocError>
-        requires { AreLengths values.now lengths.now (length values.now) }
+        requires { ShortLengths values.now lengths.now (length values.now) }
         ensures values { IfOk result (λ t. t.values.now ≡ values.now) }
-        ensures tied { IfOk result (λ t. AreTieKeys t.values.now t.lengths.now t.seconds.items) }
+        ensures tied { IfOk result (λ t. TieKeys t.values.now t.lengths.now t.seconds.items) }
     {
         let seconds = seconds_if_long(alloc, values, lengths)?;
         let blank = Value::Null(NullId {
@@ -145,9 +145,9 @@ impl<'a> Ties<'a> {
 
     /// The numbers in the order of their values, with their keys.
     pub(crate) fn in_order(&self, keys: Vec<(u64, u32)>) -> Vec<(u64, u32)>
-        requires tied { AreTieKeys self.now.values.now self.now.lengths.now self.now.seconds.items }
+        requires tied { TieKeys self.now.values.now self.now.lengths.now self.now.seconds.items }
         requires keyed { ValuesAreKeyed self.now.values.now keys.items (length self.now.values.now) }
-        ensures sorted { AreSorted self.now.values.now (places_of result.items) }
+        ensures sorted { SortsNumbers self.now.values.now (places_of result.items) }
         ensures keyed { NumbersAreKeyed self.now.values.now result.items }
     {
         let mut keys = keys;
@@ -160,7 +160,7 @@ impl<'a> Ties<'a> {
 
     // Whether two keys stand for one value.
     fn is_same(&self, a: (u64, u32), b: (u64, u32)) -> bool
-        requires tied { AreTieKeys self.now.values.now self.now.lengths.now self.now.seconds.items }
+        requires tied { TieKeys self.now.values.now self.now.lengths.now self.now.seconds.items }
         requires first { IsKeyIn self.now.values.now a }
         requires second { IsKeyIn self.now.values.now b }
         ensures { IsTrue result ↔ (value_of self.now.values.now a.1 ≡ value_of self.now.values.now b.1) }
@@ -171,8 +171,8 @@ impl<'a> Ties<'a> {
     // Whether the key at a place is the first that stands for its value.
     fn is_first(&self, keys: &[(u64, u32)], place: usize) -> bool
         requires place { place < length keys.now }
-        requires tied { AreTieKeys self.now.values.now self.now.lengths.now self.now.seconds.items }
-        requires sorted { AreSorted self.now.values.now (places_of keys.now) }
+        requires tied { TieKeys self.now.values.now self.now.lengths.now self.now.seconds.items }
+        requires sorted { SortsNumbers self.now.values.now (places_of keys.now) }
         requires keyed { NumbersAreKeyed self.now.values.now keys.now }
         ensures { MatchBool result (IsRise self.now.values.now (places_of keys.now) place)
             (IsRepeat self.now.values.now (places_of keys.now) place) }
@@ -194,10 +194,10 @@ impl<'a> Ties<'a> {
         keys: &[(u64, u32)],
     ) -> Result<(Vec<(u64, u32)>, Vec<u32>), AllocError>
         requires few { length self.now.values.now < 2 ^ 32 }
-        requires tied { AreTieKeys self.now.values.now self.now.lengths.now self.now.seconds.items }
-        requires sorted { AreSorted self.now.values.now (places_of keys.now) }
+        requires tied { TieKeys self.now.values.now self.now.lengths.now self.now.seconds.items }
+        requires sorted { SortsNumbers self.now.values.now (places_of keys.now) }
         requires keyed { NumbersAreKeyed self.now.values.now keys.now }
-        ensures { IfOk result (λ r. AreDistinct self.now.values.now r.0.items r.1.items) }
+        ensures { IfOk result (λ r. DistinctRanks self.now.values.now r.0.items r.1.items) }
     {
         let mut firsts = Vec::with_capacity(alloc, keys.len())?;
         let mut ranks = vec![in alloc; 0u32; keys.len()]?;

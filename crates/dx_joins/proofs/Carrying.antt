@@ -10,9 +10,9 @@ use Rattle.dx_instance.specs.Shown.{numbers_of_table}
 use Rattle.dx_joins.specs.declared.pattern.Pattern.{Pattern}
 use Rattle.dx_joins.specs.declared.premise.Partial.{Partial}
 use Rattle.dx_joins.specs.declared.plan.Plan.{Plan}
-use Rattle.dx_joins.specs.Collecting.{AreThose, Collection, CollectsRows, MoreThan}
+use Rattle.dx_joins.specs.Collecting.{RowsExactly, Collection, CollectsRows, MoreThan}
 use Rattle.dx_joins.specs.Joining.{variables_of_patterns}
-use Rattle.dx_joins.specs.Planning.{HoldsPartialMatches, IsVariableNeeded, IsMatchRow, PairsWith, StepsTo, AreMatchRows}
+use Rattle.dx_joins.specs.Planning.{HoldsPartialMatches, IsVariableNeeded, IsMatchRow, PairsWith, StepsTo, HasMatchRows}
 use Rattle.dx_joins.proofs.Collections.{more_same}
 use Rattle.dx_joins.proofs.Patterns.{all_but_last, split_length, step_to, to_step, variables_more}
 
@@ -34,8 +34,8 @@ step_full start most P Q e n s m =
     subst (λ (k : ℕ). MoreThan k Q) e (more_same start.most (λ t. (t ∈ start.rows) ⊎ P t) Q (λ t h. elim h [ inl l ↦ nothing (rw n at l) | inr p ↦ s t p ]) m)
 
 pub step_done : (result : Result (Option NumberTable) AllocError) (start new : Collection) (most width : ℕ) (P Q : List ℕ → Type 0) → start.most ≡ most → start.width ≡ width → start.rows ≡ [] → ((t : List ℕ) → P t ↔ Q t) → CollectsRows start new P
-    → IfOk result (λ o. MatchOption o (MoreThan new.most (λ t. t ∈ new.rows)) (λ r. AreThose new.width (λ t. t ∈ new.rows) r × (length r.rows ≤ new.most)))
-    → IfOk result (λ o. MatchOption o (MoreThan most Q) (AreThose width Q))
+    → IfOk result (λ o. MatchOption o (MoreThan new.most (λ t. t ∈ new.rows)) (λ r. RowsExactly new.width (λ t. t ∈ new.rows) r × (length r.rows ≤ new.most)))
+    → IfOk result (λ o. MatchOption o (MoreThan most Q) (RowsExactly width Q))
 step_done (Err e) start new most width P Q a b n s g k = tt
 step_done (Ok None) start new most width P Q a b n s g k =
     subst (λ (m : ℕ). MoreThan m Q) (g.most ∙ a) (more_same new.most (λ t. t ∈ new.rows) Q (λ t h. elim ((g.exact t).0 h) [ inl l ↦ nothing (rw n at l) | inr p ↦ (s t).0 p ]) k)
@@ -126,8 +126,8 @@ module _ (T : List NumberTable) (marks : List Bool) (patterns : List Pattern) (i
   room s = let r = split_length patterns i p h e in omega (arith, r, c.few, s)
 
 pub told_from : (T : List NumberTable) (marks : List Bool) (patterns : List Pattern) (shown : List ℕ) (most : ℕ) (Q : List ℕ → Type 0) (result : Result (Option NumberTable) AllocError) → ((t : List ℕ) → Q t ↔ IsMatchRow T marks patterns shown t)
-    → IfOk result (λ o. MatchOption o (MoreThan most Q) (AreThose (length shown) Q))
-    → IfOk result (λ o. MatchOption o (MoreThan most (IsMatchRow T marks patterns shown)) (λ r. AreMatchRows T marks patterns shown r))
+    → IfOk result (λ o. MatchOption o (MoreThan most Q) (RowsExactly (length shown) Q))
+    → IfOk result (λ o. MatchOption o (MoreThan most (IsMatchRow T marks patterns shown)) (λ r. HasMatchRows T marks patterns shown r))
 told_from T marks patterns shown most Q (Err e) s k = tt
 told_from T marks patterns shown most Q (Ok None) s k = more_same most Q (IsMatchRow T marks patterns shown) (λ t. (s t).0) k
 told_from T marks patterns shown most Q (Ok (Some r)) s k = record { width = k.width; ascend = k.ascend; exact = λ t. ((λ m. (s t).0 ((k.exact t).0 m)), (λ q. (k.exact t).1 ((s t).1 q))) }

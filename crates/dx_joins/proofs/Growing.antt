@@ -16,20 +16,20 @@ use Rattle.dx_model.specs.declared.rules.Derived.{Derived}
 use Rattle.dx_model.specs.Values.{Conversions, Tuple}
 use Rattle.dx_base.specs.Texts.{Text}
 use Rattle.dx_model.specs.Rules.{text_of}
-use Rattle.dx_instance.specs.Numbers.{AreDistinctValues, Extends, value_of}
+use Rattle.dx_instance.specs.Numbers.{ValuesDiffer, Extends, value_of}
 use Rattle.dx_instance.specs.Cells.{NumberTable, numbers_at}
 use Rattle.dx_instance.proofs.ShownFacts.{grown_value, longer}
-use Rattle.dx_joins.specs.Collecting.{AreThose, Collection, Collects, CollectsRows, MoreThan}
+use Rattle.dx_joins.specs.Collecting.{RowsExactly, Collection, Collects, CollectsRows, MoreThan}
 use Rattle.dx_joins.specs.Planning.{first_place}
-use Rattle.dx_joins.specs.Shown.{AreTexts, MoreTuples, StandFor, is_text, texts_of}
+use Rattle.dx_joins.specs.Shown.{AllTexts, MoreTuples, StandFor, is_text, texts_of}
 use Rattle.dx_instance.specs.Ranks.{text_of_value}
 use Rattle.dx_joins.specs.Derivations.{DerivesTo, GivenBy, derived_values, given_to}
 use Rattle.dx_joins.proofs.Translating.{distinct_texts}
 
-pub texts_grow : (S S' : List Value) (row : List ℕ) → Extends S S' → AreTexts S row → AreTexts S' row
+pub texts_grow : (S S' : List Value) (row : List ℕ) → Extends S S' → AllTexts S row → AllTexts S' row
 texts_grow S S' row e h n m = let k = h n m in (omega (arith, k.0, longer S S' e), ap is_text (grown_value S S' n e k.0) ∙ k.1)
 
-pub texts_stay : (S S' : List Value) (row : List ℕ) → Extends S S' → AreTexts S row → texts_of S' row ≡ texts_of S row
+pub texts_stay : (S S' : List Value) (row : List ℕ) → Extends S S' → AllTexts S row → texts_of S' row ≡ texts_of S row
 texts_stay S S' row e h = map_same (λ n. text_of_value (value_of S' n)) (λ n. text_of_value (value_of S n)) row (λ n m. ap text_of_value (grown_value S S' n e (h n m).0))
 
 -- the text of a variable is the one at its place
@@ -47,10 +47,10 @@ text_at (y ∷ ys) (t ∷ ts) x l m = elim (cases_Bool (eqb x y)) [
 
 -- rows that stand for tuples, while the symbols grow
 pub record Standing (S : List Value) (out : Collection) (P : Tuple → Type 0) : Type 0 where
-  pub texts : Each out.rows (AreTexts S)
+  pub texts : Each out.rows (AllTexts S)
   pub exact : (t : Tuple) → (t ∈ map (texts_of S) out.rows) ↔ P t
 
-pub standing_more : (S S' : List Value) (before after : Collection) (got : List ℕ) (P Q : Tuple → Type 0) → Extends S S' → AreTexts S' got → CollectsRows before after (λ r. r ≡ got)
+pub standing_more : (S S' : List Value) (before after : Collection) (got : List ℕ) (P Q : Tuple → Type 0) → Extends S S' → AllTexts S' got → CollectsRows before after (λ r. r ≡ got)
     → ((t : Tuple) → (P t ⊎ (t ≡ texts_of S' got)) ↔ Q t) → Standing S before P → Standing S' after Q
 standing_more S S' before after got P Q e g gains s st = record {
   texts = λ r m. elim ((gains.exact r).0 m) [ inl l ↦ texts_grow S S' r e (st.texts r l) | inr q ↦ rw q g ];
@@ -68,10 +68,10 @@ standing_more S S' before after got P Q e g gains s st = record {
   );
 }
 
-pub standing_full : (S S' : List Value) (before : Collection) (most : ℕ) (got : List ℕ) (P Q : Tuple → Type 0) → AreDistinctValues S' → Extends S S' → AreTexts S' got → MoreThan most (λ r. (r ∈ before.rows) ⊎ (r ≡ got))
+pub standing_full : (S S' : List Value) (before : Collection) (most : ℕ) (got : List ℕ) (P Q : Tuple → Type 0) → ValuesDiffer S' → Extends S S' → AllTexts S' got → MoreThan most (λ r. (r ∈ before.rows) ⊎ (r ≡ got))
     → ((t : Tuple) → P t → Q t) → Q (texts_of S' got) → Standing S before P → MoreTuples most Q
 standing_full S S' before most got P Q apart e g m s q st =
-    let texts : Each m.some (AreTexts S') = λ r k. elim (m.each r k) [ inl l ↦ texts_grow S S' r e (st.texts r l) | inr i ↦ rw i g ] in
+    let texts : Each m.some (AllTexts S') = λ r k. elim (m.each r k) [ inl l ↦ texts_grow S S' r e (st.texts r l) | inr i ↦ rw i g ] in
     let long = length-map m.some (texts_of S') in
     record {
       tuples = map (texts_of S') m.some;
@@ -90,7 +90,7 @@ abbrev pub Upto : Conversions → List ℕ → List Derived → ℕ → List ℕ
 Upto convert wanted derived first shown S0 rows i t = (q : ℕ) × (q < i) × (t ≡ given_to convert wanted derived first shown (texts_of S0 (numbers_at rows q)))
 
 -- the loop over rows
-module _ (convert : Conversions) (wanted : List ℕ) (derived : List Derived) (first : ℕ) (shown places : List ℕ) (S0 : List Value) (rows : List (List ℕ)) (texts : Each rows (AreTexts S0)) (wide : Each rows (λ (r : List ℕ). length r ≡ length wanted))
+module _ (convert : Conversions) (wanted : List ℕ) (derived : List Derived) (first : ℕ) (shown places : List ℕ) (S0 : List Value) (rows : List (List ℕ)) (texts : Each rows (AllTexts S0)) (wide : Each rows (λ (r : List ℕ). length r ≡ length wanted))
     (at : places ≡ map (first_place (wanted ++ range_with_len first (length derived))) shown) (known : shown ⊆ (wanted ++ range_with_len first (length derived))) (count : length (range_with_len first (length derived)) ≡ length derived) where
   abbrev First : ℕ → Tuple → Type 0
   First = Upto convert wanted derived first shown S0 rows
@@ -141,15 +141,15 @@ module _ (convert : Conversions) (wanted : List ℕ) (derived : List Derived) (f
         ]),
       )) st
 
-  pub upto_full : (S S' : List Value) (before after : Collection) (q most : ℕ) → q < length rows → before.most ≡ most → AreDistinctValues S' → Extends S0 S → Extends S S' → DerivesTo convert wanted derived places S S' (numbers_at rows q) true before after
+  pub upto_full : (S S' : List Value) (before after : Collection) (q most : ℕ) → q < length rows → before.most ≡ most → ValuesDiffer S' → Extends S0 S → Extends S S' → DerivesTo convert wanted derived places S S' (numbers_at rows q) true before after
       → Standing S before (First q) → MoreTuples most Whole
   upto_full S S' before after q most h m apart e0 e d st =
       let is = got_is S S' true before after q h e0 d in
       standing_full S S' before most d.got (First q) Whole apart e d.texts (subst (λ (k : ℕ). MoreThan k (λ r. (r ∈ before.rows) ⊎ (r ≡ d.got))) m d.collects)
       (λ t p. (numbers_at rows p.0, in_at rows p.0 [] (omega (arith, p.1, h)), p.2)) (numbers_at rows q, in_at rows q [] h, is) st
 
-  pub upto_all : (result : Result (Option NumberTable) AllocError) (S : List Value) (out : Collection) (q most : ℕ) → q ≡ length rows → out.most ≡ most → out.width ≡ length shown → AreDistinctValues S → Standing S out (First q)
-      → IfOk result (λ o. MatchOption o (MoreThan out.most (λ t. t ∈ out.rows)) (λ r. AreThose out.width (λ t. t ∈ out.rows) r × (length r.rows ≤ out.most)))
+  pub upto_all : (result : Result (Option NumberTable) AllocError) (S : List Value) (out : Collection) (q most : ℕ) → q ≡ length rows → out.most ≡ most → out.width ≡ length shown → ValuesDiffer S → Standing S out (First q)
+      → IfOk result (λ o. MatchOption o (MoreThan out.most (λ t. t ∈ out.rows)) (λ r. RowsExactly out.width (λ t. t ∈ out.rows) r × (length r.rows ≤ out.most)))
       → IfOk result (λ o. MatchOption o (MoreTuples most Whole) (StandFor (length shown) Whole S))
   upto_all (Err x) S out q most h m w apart st k = tt
   upto_all (Ok None) S out q most h m w apart st k =
@@ -183,18 +183,18 @@ module _ (convert : Conversions) (wanted : List ℕ) (derived : List Derived) (f
   }
 
 -- a number of a row of texts
-pub one_text : (S : List Value) (row : List ℕ) (i : ℕ) → i < length row → AreTexts S row → AreTexts S (get_or row i 0 ∷ [])
+pub one_text : (S : List Value) (row : List ℕ) (i : ℕ) → i < length row → AllTexts S row → AllTexts S (get_or row i 0 ∷ [])
 one_text S row i h t n (here e) = subst (λ (k : ℕ). (k < length S) × (is_text (value_of S k) ≡ true)) e (t (get_or row i 0) (in_at row i 0 h))
 one_text S row i h t n (there m) = elim m [ ]
 
 -- one derived variable more
 pub derive_more : (convert : Conversions) (names : List ℕ) (derived : List Derived) (row buffer : List ℕ) (i : ℕ) (e : Derived) (n : ℕ) (S0 S S' : List Value) → i < length derived → e ≡ get_or derived i e → Extends S0 S → Extends S S'
-    → AreTexts S0 row → AreTexts S buffer → n < length S' → value_of S' n ≡ Const (convert e.code (map (text_of names (texts_of S row)) e.args))
+    → AllTexts S0 row → AllTexts S buffer → n < length S' → value_of S' n ≡ Const (convert e.code (map (text_of names (texts_of S row)) e.args))
     → texts_of S buffer ≡ texts_of S0 row ++ derived_values convert names (take i derived) (texts_of S0 row)
-    → AreTexts S' (buffer ++ n ∷ []) × (texts_of S' (buffer ++ n ∷ []) ≡ texts_of S0 row ++ derived_values convert names (take (i + 1) derived) (texts_of S0 row))
+    → AllTexts S' (buffer ++ n ∷ []) × (texts_of S' (buffer ++ n ∷ []) ≡ texts_of S0 row ++ derived_values convert names (take (i + 1) derived) (texts_of S0 row))
 derive_more convert names derived row buffer i e n S0 S S' h is g0 g r b k v s = (all, whole)
   where
-    all : AreTexts S' (buffer ++ n ∷ [])
+    all : AllTexts S' (buffer ++ n ∷ [])
     all m j = elim (from_append buffer j) [ inl l ↦ texts_grow S S' buffer g b m l | inr q ↦ last m q ]
       where
         last : (m : ℕ) → m ∈ (n ∷ []) → (m < length S') × (is_text (value_of S' m) ≡ true)
@@ -225,15 +225,15 @@ derive_length convert names derived row buffer S S' e =
     let f = length-map derived (λ (e : Derived). convert e.code (map (text_of names (texts_of S row)) e.args)) in
     omega (arith, a, b, c, d, f)
 
-pub picked : (S : List Value) (row places : List ℕ) → Each places (λ i. i < length row) → AreTexts S row
-    → AreTexts S (numbers_at_places row places) × (texts_of S (numbers_at_places row places) ≡ map (λ (i : ℕ). slice_index_or (texts_of S row) i []) places)
+pub picked : (S : List Value) (row places : List ℕ) → Each places (λ i. i < length row) → AllTexts S row
+    → AllTexts S (numbers_at_places row places) × (texts_of S (numbers_at_places row places) ≡ map (λ (i : ℕ). slice_index_or (texts_of S row) i []) places)
 picked S row places w t = (
   (λ n m. let r = from_map (slice_index row) places m in subst (λ (k : ℕ). (k < length S) × (is_text (value_of S k) ≡ true)) r.2 (t (get_or row r.0 0) (in_at row r.0 0 (w r.0 r.1)))),
   map-map (λ (n : ℕ). text_of_value (value_of S n)) (slice_index row) places
       ∙ map_same (λ (i : ℕ). text_of_value (value_of S (get_or row i 0))) (λ (i : ℕ). slice_index_or (texts_of S row) i []) places (λ i m. sym (get_or-map (λ (n : ℕ). text_of_value (value_of S n)) row i 0 [] (w i m))),
 )
 
-pub derives_result : (result : Result Bool AllocError) (convert : Conversions) (wanted : List ℕ) (derived : List Derived) (places : List ℕ) (S S' : List Value) (row got : List ℕ) (before after : Collection) → AreTexts S' got
+pub derives_result : (result : Result Bool AllocError) (convert : Conversions) (wanted : List ℕ) (derived : List Derived) (places : List ℕ) (S S' : List Value) (row got : List ℕ) (before after : Collection) → AllTexts S' got
     → texts_of S' got ≡ map (λ (i : ℕ). slice_index_or (texts_of S row ++ derived_values convert wanted derived (texts_of S row)) i []) places
     → IfOk result (λ full. Collects full before after (λ t. t ≡ got)) → IfOk result (λ full. DerivesTo convert wanted derived places S S' row full before after)
 derives_result (Err e) convert wanted derived places S S' row got before after t s k = tt

@@ -5,7 +5,7 @@ use Rattle.std.specs.declared.alloc.AllocError.{AllocError}
 use Rattle.std.proofs.lemmas.List.{length-map}
 use Rattle.dx_joins.specs.declared.plan.Plan.{Plan}
 use Rattle.dx_joins.specs.Collecting.{Collection, Collects}
-use Rattle.dx_joins.specs.Joining.{AreMarked}
+use Rattle.dx_joins.specs.Joining.{AllMarked}
 use Rattle.dx_joins.specs.Looking.{numbers_at_places}
 use Rattle.dx_joins.specs.Planning.{IsJoinPlan, Pairs, first_place}
 use Rattle.dx_joins.proofs.Places.{joined_from, joined_is}
@@ -22,7 +22,7 @@ gathered_width p row buffer i e =
     long xs = length-map xs (slice_index row)
 
 -- what is collected of a pair whose rows agree
-pub paired : (result : Result Bool AllocError) (p : Plan) (marks : List Bool) (r s buffer : List ℕ) (old new : Collection) → IsJoinPlan p → length r ≡ length p.left.items → AreMarked marks s
+pub paired : (result : Result Bool AllocError) (p : Plan) (marks : List Bool) (r s buffer : List ℕ) (old new : Collection) → IsJoinPlan p → length r ≡ length p.left.items → AllMarked marks s
     → numbers_at_places (r ++ s) p.firsts.items ≡ s → buffer ≡ numbers_at_places (r ++ s) p.places.items
     → IfOk result (λ full. Collects full old new (λ t. t ≡ buffer)) → IfOk result (λ full. Collects full old new (Pairs p marks r s))
 paired (Err e) p marks r s buffer old new i w m a b k = tt

@@ -9,7 +9,7 @@ use Rattle.dx_base.proofs.Members.{in_left, in_right, from_append, in_flat_map, 
 use Rattle.dx_base.proofs.Tests.{map_same, to_any, from_any}
 use Rattle.dx_instance.specs.Cells.{NumberTable}
 use Rattle.dx_joins.specs.declared.pattern.Pattern.{Pattern}
-use Rattle.dx_joins.specs.Joining.{MatchesPatterns, MatchesPattern, AreRowsWith, variables_of_patterns}
+use Rattle.dx_joins.specs.Joining.{MatchesPatterns, MatchesPattern, HasRowsWith, variables_of_patterns}
 use Rattle.dx_joins.specs.declared.premise.Partial.{Partial}
 use Rattle.dx_joins.specs.Planning.{AddsOnce, IsMatchRow, StepsTo}
 
@@ -47,7 +47,7 @@ pub stands_same : (T : List NumberTable) (marks : List Bool) (f g : ℕ → ℕ)
 stands_same T marks f g p s h = rw (map_same g f p.variables.items s) h
 
 module _ (T : List NumberTable) (marks : List Bool) (done : List Pattern) (p : Pattern) (q : Partial) (kept : List ℕ)
-    (told : AreRowsWith (MatchesPatterns T marks done) q.variables.items q.rows.rows) (shared : (x : ℕ) → x ∈ variables_of_patterns done → x ∈ p.variables.items → x ∈ q.variables.items)
+    (told : HasRowsWith (MatchesPatterns T marks done) q.variables.items q.rows.rows) (shared : (x : ℕ) → x ∈ variables_of_patterns done → x ∈ p.variables.items → x ∈ q.variables.items)
     (known : kept ⊆ (q.variables.items ++ p.variables.items)) where
   -- one pattern more
   pub step_to : (t : List ℕ) → StepsTo T marks q p kept t → IsMatchRow T marks (done ++ p ∷ []) kept t

@@ -11,10 +11,10 @@ use Rattle.dx_base.proofs.Tests.{map_same}
 use Rattle.dx_instance.specs.Cells.{NumberTable}
 use Rattle.dx_joins.specs.declared.pattern.Pattern.{Pattern}
 use Rattle.dx_joins.specs.declared.parts.Part.{Part}
-use Rattle.dx_joins.specs.Collecting.{AreThose, MoreThan}
+use Rattle.dx_joins.specs.Collecting.{RowsExactly, MoreThan}
 use Rattle.dx_joins.specs.Joining.{MatchesPatterns, variables_of_patterns}
 use Rattle.dx_joins.specs.Looking.{numbers_at_places}
-use Rattle.dx_joins.specs.Planning.{IsVariableNeeded, IsMatchRow, AreMatchRows, first_place}
+use Rattle.dx_joins.specs.Planning.{IsVariableNeeded, IsMatchRow, HasMatchRows, first_place}
 use Rattle.dx_joins.specs.Products.{Crosses, GivesRows, IsPartOf, IsProduct, IsWide, PartGrows, ShareNone}
 use Rattle.dx_joins.proofs.Carrying.{told_from}
 use Rattle.dx_joins.proofs.Distincts.{distinct_append, distinct_map}
@@ -52,7 +52,7 @@ module _ (tables : List NumberTable) (marks : List Bool) (first second : List Pa
   both_told : (r s : List ℕ) → IsMatchRow tables marks first left r → IsMatchRow tables marks second right s → IsMatchRow tables marks (first ++ second) kept (numbers_at_places (r ++ s) places)
   both_told r s w v = (glue w.0 v.0, glue_says w.0 v.0 w.1 v.1, sym (glued w.0 v.0 r s w.2 v.2))
 
-  pub cross_told : (lefts rights : NumberTable) → AreMatchRows tables marks first left lefts → AreMatchRows tables marks second right rights → (t : List ℕ) → Crosses lefts.rows rights.rows places t ↔ IsMatchRow tables marks (first ++ second) kept t
+  pub cross_told : (lefts rights : NumberTable) → HasMatchRows tables marks first left lefts → HasMatchRows tables marks second right rights → (t : List ℕ) → Crosses lefts.rows rights.rows places t ↔ IsMatchRow tables marks (first ++ second) kept t
   cross_told lefts rights by_left by_right t = (
     (λ p. subst (IsMatchRow tables marks (first ++ second) kept) (sym p.2.2) (both_told p.0 p.2.0 ((by_left.exact p.0).0 p.1) ((by_right.exact p.2.0).0 p.2.1))),
     (λ q. (
@@ -111,7 +111,7 @@ some_row [] n = absurd (n refl)
 some_row (r ∷ rows) n = (r, here refl)
 
 -- no rows
-none_told : (tables : List NumberTable) (marks : List Bool) (patterns : List Pattern) (kept : List ℕ) (r : NumberTable) → r ≡ record { width = length kept; rows = [] } → ((t : List ℕ) → ¬ (IsMatchRow tables marks patterns kept t)) → AreMatchRows tables marks patterns kept r
+none_told : (tables : List NumberTable) (marks : List Bool) (patterns : List Pattern) (kept : List ℕ) (r : NumberTable) → r ≡ record { width = length kept; rows = [] } → ((t : List ℕ) → ¬ (IsMatchRow tables marks patterns kept t)) → HasMatchRows tables marks patterns kept r
 none_told tables marks patterns kept r e n = rw e (record {
   width = refl;
   ascend = λ i j d h k. absurd (omega (arith, h, k));
@@ -126,36 +126,36 @@ nothing_in (r ∷ rows) e m = absurd (cc e)
 
 module _ (most : ℕ) (left right : Part) (kept places : List ℕ) (known : kept ⊆ (left.variables.items ++ right.variables.items)) (is : places ≡ map (first_place (left.variables.items ++ right.variables.items)) kept) where
   pub both_known : (lefts rights : NumberTable) (result : Result (Option NumberTable) AllocError) → left.rows ≡ Some lefts → right.rows ≡ Some rights
-      → IfOk result (λ o. MatchOption o (MoreThan most (Crosses lefts.rows rights.rows places)) (AreThose (length places) (Crosses lefts.rows rights.rows places)))
+      → IfOk result (λ o. MatchOption o (MoreThan most (Crosses lefts.rows rights.rows places)) (RowsExactly (length places) (Crosses lefts.rows rights.rows places)))
       → IfOk result (IsProduct most left right kept)
   both_known lefts rights (Err x) l r k = tt
   both_known lefts rights (Ok o) l r k = λ tables marks first second shown a b apart in_left_kept in_right_kept.
-      let by_left : AreMatchRows tables marks first left.variables.items lefts = rw l at a.gives in
-      let by_right : AreMatchRows tables marks second right.variables.items rights = rw r at b.gives in
+      let by_left : HasMatchRows tables marks first left.variables.items lefts = rw l at a.gives in
+      let by_right : HasMatchRows tables marks second right.variables.items rights = rw r at b.gives in
       let same = cross_told tables marks first second left.variables.items right.variables.items kept places apart a.known b.known known is lefts rights by_left by_right in
       let long : length places ≡ length kept = ap length is ∙ length-map kept (first_place (left.variables.items ++ right.variables.items)) in
-      told_from tables marks (first ++ second) kept most (Crosses lefts.rows rights.rows places) (Ok o) same (subst (λ (n : ℕ). MatchOption o (MoreThan most (Crosses lefts.rows rights.rows places)) (AreThose n (Crosses lefts.rows rights.rows places))) long k)
+      told_from tables marks (first ++ second) kept most (Crosses lefts.rows rights.rows places) (Ok o) same (subst (λ (n : ℕ). MatchOption o (MoreThan most (Crosses lefts.rows rights.rows places)) (RowsExactly n (Crosses lefts.rows rights.rows places))) long k)
 
   pub left_known : (lefts : NumberTable) (o : Option NumberTable) → left.rows ≡ Some lefts → right.rows ≡ None
       → MatchOption o (¬ (lefts.rows ≡ [])) (λ r. (lefts.rows ≡ []) × (r ≡ record { width = length kept; rows = [] })) → IsProduct most left right kept o
   left_known lefts None l r k tables marks first second shown a b apart in_left_kept in_right_kept =
-      let by_left : AreMatchRows tables marks first left.variables.items lefts = rw l at a.gives in
+      let by_left : HasMatchRows tables marks first left.variables.items lefts = rw l at a.gives in
       let more : MoreThan most (IsMatchRow tables marks second right.variables.items) = rw r at b.gives in
       let one = some_row lefts.rows k in
       more_second tables marks first second left.variables.items right.variables.items kept places apart a.known b.known known is most one.0 in_right_kept ((by_left.exact one.0).0 one.1) more
   left_known lefts (Some t) l r k tables marks first second shown a b apart in_left_kept in_right_kept =
-      let by_left : AreMatchRows tables marks first left.variables.items lefts = rw l at a.gives in
+      let by_left : HasMatchRows tables marks first left.variables.items lefts = rw l at a.gives in
       none_told tables marks (first ++ second) kept t k.1 (λ row q. nothing_in lefts.rows k.0 ((by_left.exact (map q.0 left.variables.items)).1 (q.0, (λ p m. q.1 p (in_left second m)), refl)))
 
   pub right_known : (rights : NumberTable) (o : Option NumberTable) → left.rows ≡ None → right.rows ≡ Some rights
       → MatchOption o (¬ (rights.rows ≡ [])) (λ r. (rights.rows ≡ []) × (r ≡ record { width = length kept; rows = [] })) → IsProduct most left right kept o
   right_known rights None l r k tables marks first second shown a b apart in_left_kept in_right_kept =
-      let by_right : AreMatchRows tables marks second right.variables.items rights = rw r at b.gives in
+      let by_right : HasMatchRows tables marks second right.variables.items rights = rw r at b.gives in
       let more : MoreThan most (IsMatchRow tables marks first left.variables.items) = rw l at a.gives in
       let one = some_row rights.rows k in
       more_first tables marks first second left.variables.items right.variables.items kept places apart a.known b.known known is most one.0 in_left_kept more ((by_right.exact one.0).0 one.1)
   right_known rights (Some t) l r k tables marks first second shown a b apart in_left_kept in_right_kept =
-      let by_right : AreMatchRows tables marks second right.variables.items rights = rw r at b.gives in
+      let by_right : HasMatchRows tables marks second right.variables.items rights = rw r at b.gives in
       none_told tables marks (first ++ second) kept t k.1 (λ row q. nothing_in rights.rows k.0 ((by_right.exact (map q.0 right.variables.items)).1 (q.0, (λ p m. q.1 p (in_right first m)), refl)))
 
   pub none_known : left.rows ≡ None → right.rows ≡ None → IsProduct most left right kept None
@@ -331,7 +331,7 @@ module _ (tables : List NumberTable) (marks : List Bool) (most : ℕ) (ps : List
 
   pub last_gives : (done : ℕ) (old last : Part) (result : Result (Option NumberTable) AllocError) → done ≤ length ps → IsPartOf tables marks most (take done ps) shown old → IsPartOf tables marks most (slice ps done (length ps - done)) shown last
       → ShareNone (take done ps) (drop done ps) → IfOk result (IsProduct most old last shown)
-      → IfOk result (λ o. MatchOption o (MoreThan most (IsMatchRow tables marks ps shown)) (λ r. AreMatchRows tables marks ps shown r))
+      → IfOk result (λ o. MatchOption o (MoreThan most (IsMatchRow tables marks ps shown)) (λ r. HasMatchRows tables marks ps shown r))
   last_gives done old last (Err x) h a b apart k = tt
   last_gives done old last (Ok o) h a b apart k =
       subst (λ (l : List Pattern). GivesRows tables marks most l shown o) (rest_is done h)

@@ -9,7 +9,7 @@ use Rattle.dx_instance.specs.Cells.{NumberTable}
 use Rattle.dx_joins.specs.declared.pattern.Pattern.{Pattern}
 use Rattle.dx_joins.specs.Collecting.{MoreThan}
 use Rattle.dx_joins.specs.Joining.{variables_of_patterns}
-use Rattle.dx_joins.specs.Planning.{IsMatchRow, AreMatchRows}
+use Rattle.dx_joins.specs.Planning.{IsMatchRow, HasMatchRows}
 use Rattle.dx_joins.proofs.Collections.{more_same}
 use Rattle.std.specs.Prelude.{Bool}
 
@@ -43,8 +43,8 @@ told_in : (T : List NumberTable) (marks : List Bool) (ps qs : List Pattern) (sho
 told_in T marks ps qs shown t p (numbers, says, is) = (numbers, λ q m. says q (member ps qs p q m), is)
 
 pub reordered : (T : List NumberTable) (marks : List Bool) (ps qs : List Pattern) (shown : List ℕ) (most : ℕ) (o : Option NumberTable) → IsPermutation ps qs
-    → MatchOption o (MoreThan most (IsMatchRow T marks qs shown)) (λ r. AreMatchRows T marks qs shown r)
-    → MatchOption o (MoreThan most (IsMatchRow T marks ps shown)) (λ r. AreMatchRows T marks ps shown r)
+    → MatchOption o (MoreThan most (IsMatchRow T marks qs shown)) (λ r. HasMatchRows T marks qs shown r)
+    → MatchOption o (MoreThan most (IsMatchRow T marks ps shown)) (λ r. HasMatchRows T marks ps shown r)
 reordered T marks ps qs shown most None p h = more_same most (IsMatchRow T marks qs shown) (IsMatchRow T marks ps shown) (λ t k. told_in T marks ps qs shown t p k) h
 reordered T marks ps qs shown most (Some r) p h = record {
   width = h.width;
@@ -56,7 +56,7 @@ reordered T marks ps qs shown most (Some r) p h = record {
 }
 
 pub reordered_result : {E : Type 0} (T : List NumberTable) (marks : List Bool) (ps qs : List Pattern) (shown : List ℕ) (most : ℕ) (r : Result (Option NumberTable) E)
-    → IsPermutation ps qs → IfOk r (λ o. MatchOption o (MoreThan most (IsMatchRow T marks qs shown)) (λ t. AreMatchRows T marks qs shown t))
-    → IfOk r (λ o. MatchOption o (MoreThan most (IsMatchRow T marks ps shown)) (λ t. AreMatchRows T marks ps shown t))
+    → IsPermutation ps qs → IfOk r (λ o. MatchOption o (MoreThan most (IsMatchRow T marks qs shown)) (λ t. HasMatchRows T marks qs shown t))
+    → IfOk r (λ o. MatchOption o (MoreThan most (IsMatchRow T marks ps shown)) (λ t. HasMatchRows T marks ps shown t))
 reordered_result T marks ps qs shown most (Ok o) p h = reordered T marks ps qs shown most o p h
 reordered_result T marks ps qs shown most (Err e) p h = tt

@@ -18,18 +18,18 @@ use Rattle.std.proofs.lemmas.Simd.{map-map}
 use Rattle.dx_model.specs.Rules.{cell_value, cells_of, premise_fact, after_cells}
 use Rattle.dx_model.specs.Fitting.{IsVariable, cell_variable}
 use Rattle.dx_instance.specs.Stored.{facts, rows_of, widths}
-use Rattle.dx_instance.specs.Numbers.{AreDistinctValues, value_of}
+use Rattle.dx_instance.specs.Numbers.{ValuesDiffer, value_of}
 use Rattle.dx_model.specs.Covers.{same_value}
 use Rattle.dx_model.proofs.Before.{same_value-refl, same_value-true}
 use Rattle.dx_instance.specs.Cells.{NumberTable}
-use Rattle.dx_instance.specs.Shown.{AreBelow, PartsFit, numbers_of_table, shown_row, shown_tables, shown}
+use Rattle.dx_instance.specs.Shown.{NumbersBelow, PartsFit, numbers_of_table, shown_row, shown_tables, shown}
 use Rattle.dx_instance.proofs.ShownFacts.{number_same, row_same}
 use Rattle.dx_instance.proofs.StoredFacts.{row_from_fact, fact_from_row}
 use Rattle.dx_joins.specs.declared.pattern.Pattern.{Pattern}
 use Rattle.dx_joins.specs.Collecting.{MoreThan}
-use Rattle.dx_joins.specs.Joining.{AreMarked, MatchesPatterns, MatchesPattern, variables_of_patterns}
-use Rattle.dx_joins.specs.Planning.{FitPattern, IsMatchRow, AreMatchRows}
-use Rattle.dx_joins.specs.Shown.{ArePatterns, AreTexts, IsPattern, IsMatchTuple, MoreTuples, StandFor, is_text, texts_of}
+use Rattle.dx_joins.specs.Joining.{AllMarked, MatchesPatterns, MatchesPattern, variables_of_patterns}
+use Rattle.dx_joins.specs.Planning.{FitPattern, IsMatchRow, HasMatchRows}
+use Rattle.dx_joins.specs.Shown.{ArePatterns, AllTexts, IsPattern, IsMatchTuple, MoreTuples, StandFor, is_text, texts_of}
 use Rattle.dx_instance.specs.Ranks.{text_of_value}
 use Rattle.dx_joins.proofs.Distincts.{distinct_map}
 
@@ -39,17 +39,17 @@ pub text_back : (v : Value) → is_text v ≡ true → Const (text_of_value v) �
 text_back (Const t) e = refl
 text_back (Null n) e = absurd (cc e)
 
-shown_texts : (S : List Value) (row : List ℕ) → AreTexts S row → map Const (texts_of S row) ≡ shown_row S row
+shown_texts : (S : List Value) (row : List ℕ) → AllTexts S row → map Const (texts_of S row) ≡ shown_row S row
 shown_texts S [] h = refl
 shown_texts S (n ∷ row) h =
     let first = text_back (value_of S n) (h n (here refl)).1 in
     let rest = shown_texts S row (λ m k. h m (there k)) in
     cc (first, rest)
 
-pub texts_same : (S : List Value) (a b : List ℕ) → AreDistinctValues S → AreTexts S a → AreTexts S b → texts_of S a ≡ texts_of S b → a ≡ b
+pub texts_same : (S : List Value) (a b : List ℕ) → ValuesDiffer S → AllTexts S a → AllTexts S b → texts_of S a ≡ texts_of S b → a ≡ b
 texts_same S a b p h k e = row_same S a b p (λ n m. (h n m).0) (λ n m. (k n m).0) (sym (shown_texts S a h) ∙ ap (map Const) e ∙ shown_texts S b k)
 
-pub distinct_texts : (S : List Value) (rows : List (List ℕ)) → AreDistinctValues S → Each rows (AreTexts S) → Distinct rows → Distinct (map (texts_of S) rows)
+pub distinct_texts : (S : List Value) (rows : List (List ℕ)) → ValuesDiffer S → Each rows (AllTexts S) → Distinct rows → Distinct (map (texts_of S) rows)
 distinct_texts S rows p w once = distinct_map (texts_of S) rows (λ a b m k e. texts_same S a b p (w a m) (w b k) e) once
 
 -- ---- numbers of values
@@ -72,7 +72,7 @@ number_there (w ∷ ws) v m = elim (cases_Bool (same_value w v)) [
     rest (here e) f = absurd (self v (subst (λ (u : Value). same_value u v ≡ false) e f))
     rest (there k) f = k
 
-pub number_is : (S : List Value) (n : ℕ) (v : Value) → AreDistinctValues S → n < length S → value_of S n ≡ v → number_in S v ≡ n
+pub number_is : (S : List Value) (n : ℕ) (v : Value) → ValuesDiffer S → n < length S → value_of S n ≡ v → number_in S v ≡ n
 number_is S n v p h e =
     let r = number_there S v (subst (λ (u : Value). u ∈ S) e (in_at S n (Const []) h)) in
     number_same S (number_in S v) n p r.0 h (r.1 ∙ sym e)
@@ -145,8 +145,8 @@ module _ (S : List Value) (T : List NumberTable) (fits : PartsFit S T) where
       let there_shown : shown_row S (map numbers p.variables.items) ∈ rows_of (shown_tables S T) a.table = rw (rows_shown S T a.table, ← q.table) (in_map (shown_row S) h.0) in
       fact_from_row (shown_tables S T) a.table (map (cell_value texts (λ _. Const [])) a.cells) (rw said there_shown)
 
-  matched : (texts : ℕ → Text) (vs r : List ℕ) → AreBelow (length S) r → shown_row S r ≡ map (λ x. Const (texts x)) vs
-      → (map (λ x. number_in S (Const (texts x))) vs ≡ r) × AreMarked (map is_text S) r × ((x : ℕ) → x ∈ vs → Const (texts x) ∈ S)
+  matched : (texts : ℕ → Text) (vs r : List ℕ) → NumbersBelow (length S) r → shown_row S r ≡ map (λ x. Const (texts x)) vs
+      → (map (λ x. number_in S (Const (texts x))) vs ≡ r) × AllMarked (map is_text S) r × ((x : ℕ) → x ∈ vs → Const (texts x) ∈ S)
   matched texts [] [] b e = (refl, (λ n m. none m), (λ x m. none m))
     where
       none : {Z : Type 0} {x : ℕ} → x ∈ [] → Z
@@ -161,7 +161,7 @@ module _ (S : List Value) (T : List NumberTable) (fits : PartsFit S T) where
       let is = number_is S n (Const (texts x)) fits.apart h first in
       (cc (is, k.0), mark n h first k.1, there_of n h first k.2)
     where
-      mark : (n : ℕ) → n < length S → value_of S n ≡ Const (texts x) → AreMarked (map is_text S) r → AreMarked (map is_text S) (n ∷ r)
+      mark : (n : ℕ) → n < length S → value_of S n ≡ Const (texts x) → AllMarked (map is_text S) r → AllMarked (map is_text S) (n ∷ r)
       mark n h f k m (here e) = rw (← e) (marked_at S n h ∙ ap is_text f)
       mark n h f k m (there i) = k m i
 
@@ -188,7 +188,7 @@ module _ (S : List Value) (T : List NumberTable) (fits : PartsFit S T) where
     shown_pattern : (x : ℕ) → x ∈ shown → (p : Pattern) × (p ∈ ps) × (x ∈ p.variables.items)
     shown_pattern x m = from_flat_map (λ (p : Pattern). p.variables.items) ps (known x m)
 
-    row_texts : (numbers : ℕ → ℕ) → MatchesPatterns T marks ps numbers → AreTexts S (map numbers shown)
+    row_texts : (numbers : ℕ → ℕ) → MatchesPatterns T marks ps numbers → AllTexts S (map numbers shown)
     row_texts numbers says n m =
         let r = from_map numbers shown m in
         let p = shown_pattern r.0 r.1 in
@@ -218,7 +218,7 @@ module _ (S : List Value) (T : List NumberTable) (fits : PartsFit S T) where
               ∙ map_same (λ x. text_of_value (value_of S (numbers x))) texts shown (λ x m. let p = shown_pattern x m in ap text_of_value (number_there S (Const (texts x)) ((stands p.0 p.1).1 x p.2)).1) ∙ sym e,
         )
 
-    pub told_shown : (table : NumberTable) → AreMatchRows T marks ps shown table → StandFor (length shown) (IsMatchTuple convert premise [] (facts (shown_tables S T)) shown) S table
+    pub told_shown : (table : NumberTable) → HasMatchRows T marks ps shown table → StandFor (length shown) (IsMatchTuple convert premise [] (facts (shown_tables S T)) shown) S table
     told_shown table h = record {
       width = h.width;
       ascend = h.ascend;
@@ -234,7 +234,7 @@ module _ (S : List Value) (T : List NumberTable) (fits : PartsFit S T) where
 
     pub more_shown : (most : ℕ) → MoreThan most (IsMatchRow T marks ps shown) → MoreTuples most (IsMatchTuple convert premise [] (facts (shown_tables S T)) shown)
     more_shown most h =
-        let texts : Each h.some (AreTexts S) = λ row m. let r = h.each row m in rw r.2 (row_texts r.0 r.1) in
+        let texts : Each h.some (AllTexts S) = λ row m. let r = h.each row m in rw r.2 (row_texts r.0 r.1) in
         let long = length-map h.some (texts_of S) in
         record {
           tuples = map (texts_of S) h.some;
@@ -248,7 +248,7 @@ module _ (S : List Value) (T : List NumberTable) (fits : PartsFit S T) where
 
 pub result_shown : (S : List Value) (T : List NumberTable) (fits : PartsFit S T) (premise : List Atom) (ps : List Pattern) (shown : List ℕ) (plain : Each premise (λ a. Each a.cells IsVariable)) (are : ArePatterns premise ps) (known : shown ⊆ variables_of_patterns ps) (convert : Conversions)
     (marks : List Bool) (most : ℕ) (result : Result (Option NumberTable) AllocError) → marks ≡ map is_text S
-    → IfOk result (λ o. MatchOption o (MoreThan most (IsMatchRow T marks ps shown)) (λ r. AreMatchRows T marks ps shown r))
+    → IfOk result (λ o. MatchOption o (MoreThan most (IsMatchRow T marks ps shown)) (λ r. HasMatchRows T marks ps shown r))
     → IfOk result (λ o. MatchOption o (MoreTuples most (IsMatchTuple convert premise [] (facts (shown_tables S T)) shown)) (λ r. StandFor (length shown) (IsMatchTuple convert premise [] (facts (shown_tables S T)) shown) S r))
 result_shown S T fits premise ps shown plain are known convert marks most (Err e) is k = tt
 result_shown S T fits premise ps shown plain are known convert marks most (Ok None) is k = more_shown S T fits premise ps shown plain are known convert most (rw is at k)

@@ -8,9 +8,9 @@ use Rattle.dx_model.specs.declared.values.Value.{Value}
 use Rattle.dx_instance.specs.Cells.{NumberTable, with_numbers}
 use Rattle.dx_instance.specs.Shown.{PartsFit, numbers_of_table}
 use Rattle.dx_joins.specs.declared.pattern.Pattern.{Pattern}
-use Rattle.dx_joins.specs.Collecting.{AreThose, MoreThan}
+use Rattle.dx_joins.specs.Collecting.{RowsExactly, MoreThan}
 use Rattle.dx_joins.specs.Joining.{variables_of_patterns}
-use Rattle.dx_joins.specs.Planning.{IsMatchRow, AreMatchRows}
+use Rattle.dx_joins.specs.Planning.{IsMatchRow, HasMatchRows}
 use Rattle.dx_joins.specs.Valued.{IsJoinRow}
 use Rattle.dx_joins.proofs.Translating.{table_in}
 
@@ -22,8 +22,8 @@ told_joined S T ps shown fits t = (
 
 pub result_joined : (S : List Value) (T : List NumberTable) (ps : List Pattern) (shown : List ℕ) (marks : List Bool) (most : ℕ) (result : Result (Option NumberTable) AllocError)
     → PartsFit S T → marks ≡ replicate (length S) true
-    → IfOk result (λ o. MatchOption o (MoreThan most (IsMatchRow T marks ps shown)) (λ r. AreMatchRows T marks ps shown r))
-    → IfOk result (λ o. MatchOption o (MoreThan most (IsJoinRow T ps shown)) (AreThose (length shown) (IsJoinRow T ps shown)))
+    → IfOk result (λ o. MatchOption o (MoreThan most (IsMatchRow T marks ps shown)) (λ r. HasMatchRows T marks ps shown r))
+    → IfOk result (λ o. MatchOption o (MoreThan most (IsJoinRow T ps shown)) (RowsExactly (length shown) (IsJoinRow T ps shown)))
 result_joined S T ps shown marks most (Err e) fits is k = tt
 result_joined S T ps shown marks most (Ok None) fits is k =
     let j = rw is at k in
@@ -41,8 +41,8 @@ none_joined T ps shown e s t = rw (e, s) ((λ q. ((λ x. x), (λ p m. elim m [ ]
 
 pub result_none : (T : List NumberTable) (ps : List Pattern) (shown : List ℕ) (most : ℕ) (result : Result (Option NumberTable) AllocError)
     → ps ≡ [] → shown ⊆ variables_of_patterns ps
-    → IfOk result (λ o. MatchOption o (MoreThan most (λ t. t ≡ [])) (AreThose 0 (λ t. t ≡ [])))
-    → IfOk result (λ o. MatchOption o (MoreThan most (IsJoinRow T ps shown)) (AreThose (length shown) (IsJoinRow T ps shown)))
+    → IfOk result (λ o. MatchOption o (MoreThan most (λ t. t ≡ [])) (RowsExactly 0 (λ t. t ≡ [])))
+    → IfOk result (λ o. MatchOption o (MoreThan most (IsJoinRow T ps shown)) (RowsExactly (length shown) (IsJoinRow T ps shown)))
 result_none T ps shown most (Err e) is s k = tt
 result_none T ps shown most (Ok None) is s k =
     let z = nothing_shown shown (rw is at s) in
@@ -66,8 +66,8 @@ one_more most e = record {
   few = omega arith;
 }
 
-pub one_alone : (old new : NumberTable) → old ≡ record { width = 0; rows = [] } → new ≡ with_numbers old [] → AreThose 0 (λ (t : List ℕ). t ≡ []) new
-one_alone old new e d = subst (AreThose 0 (λ (t : List ℕ). t ≡ [])) (sym (d ∙ ap (λ (o : NumberTable). with_numbers o []) e)) (record {
+pub one_alone : (old new : NumberTable) → old ≡ record { width = 0; rows = [] } → new ≡ with_numbers old [] → RowsExactly 0 (λ (t : List ℕ). t ≡ []) new
+one_alone old new e d = subst (RowsExactly 0 (λ (t : List ℕ). t ≡ [])) (sym (d ∙ ap (λ (o : NumberTable). with_numbers o []) e)) (record {
   width = refl;
   ascend = λ i j d h k. absurd (omega (arith, h, k));
   exact = λ t. ((λ m. only_none t m), (λ q. here (sym q)));

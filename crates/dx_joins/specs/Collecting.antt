@@ -29,7 +29,7 @@ pub record MoreThan (most : ℕ) (P : List ℕ → Type 0) : Type 0 where
   pub few : length some < 2 ^ 32
 
 -- the rows are those that have P, ascending and each once
-pub record AreThose (columns : ℕ) (P : List ℕ → Type 0) (t : NumberTable) : Type 0 where
+pub record RowsExactly (columns : ℕ) (P : List ℕ → Type 0) (t : NumberTable) : Type 0 where
   pub width : t.width ≡ columns
   pub ascend : NumbersAscend t.rows
   pub exact : (r : List ℕ) → (r ∈ t.rows) ↔ P r

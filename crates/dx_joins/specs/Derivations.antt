@@ -11,9 +11,9 @@ use Rattle.dx_funcs.specs.declared.host.Host.{Host}
 use Rattle.dx_funcs.specs.Offers.{IsListed}
 use Rattle.dx_funcs.specs.Serving.{Calls, Serves, offered}
 use Rattle.dx_instance.specs.Cells.{NumberTable}
-use Rattle.dx_instance.specs.Numbers.{AreDistinctValues}
+use Rattle.dx_instance.specs.Numbers.{ValuesDiffer}
 use Rattle.dx_joins.specs.Collecting.{Collection, Collects}
-use Rattle.dx_joins.specs.Shown.{AreTexts, texts_of}
+use Rattle.dx_joins.specs.Shown.{AllTexts, texts_of}
 
 -- the text of a derived variable, if these variables have the texts of a tuple
 abbrev pub derived_value : Conversions → List ℕ → Derived → Tuple → Text
@@ -36,15 +36,15 @@ pub record IsComputed {F M : Type 0} (calls : Calls F) (apply : Conversions) (h 
 
 -- the symbols are distinct, and the row has so many numbers of theirs, each of which stands for a text
 pub record IsTextRow (symbols : List Value) (columns : ℕ) (row : List ℕ) : Type 0 where
-  pub apart : AreDistinctValues symbols
+  pub apart : ValuesDiffer symbols
   pub many : length row ≡ columns
-  pub texts : AreTexts symbols row
+  pub texts : AllTexts symbols row
 
 -- the same for the rows of a table
 pub record HasTextRows (symbols : List Value) (columns : ℕ) (table : NumberTable) : Type 0 where
-  pub apart : AreDistinctValues symbols
+  pub apart : ValuesDiffer symbols
   pub width : table.width ≡ columns
-  pub texts : Each table.rows (AreTexts symbols)
+  pub texts : Each table.rows (AllTexts symbols)
 
 -- the variable is an argument of a derived variable, or is shown
 abbrev pub IsVariableWanted : List Derived → List ℕ → ℕ → Type 0
@@ -64,7 +64,7 @@ GivenBy convert wanted derived first shown symbols rows t =
 pub record DerivesTo (convert : Conversions) (wanted : List ℕ) (derived : List Derived)
     (places : List ℕ) (old new : List Value) (row : List ℕ) (full : Bool) (before after : Collection) : Type 0 where
   pub got : List ℕ
-  pub texts : AreTexts new got
+  pub texts : AllTexts new got
   pub shown : texts_of new got
       ≡ map (λ i. slice_index_or (with_derived convert wanted derived (texts_of old row)) i []) places
   pub collects : Collects full before after (λ t. t ≡ got)

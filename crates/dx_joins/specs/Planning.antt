@@ -8,9 +8,9 @@ use Rattle.dx_joins.specs.declared.index.Index.{Index}
 use Rattle.dx_joins.specs.declared.plan.Plan.{Plan}
 use Rattle.dx_joins.specs.declared.pattern.Pattern.{Pattern}
 use Rattle.dx_joins.specs.declared.premise.Partial.{Partial}
-use Rattle.dx_joins.specs.Collecting.{AreThose, Collection}
+use Rattle.dx_joins.specs.Collecting.{RowsExactly, Collection}
 use Rattle.dx_joins.specs.Looking.{IsBucketIndex, keys_of}
-use Rattle.dx_joins.specs.Joining.{AreMarked, IsJoinOf, MatchesPatterns, AreRowsWith, variables_of_patterns}
+use Rattle.dx_joins.specs.Joining.{AllMarked, IsJoinOf, MatchesPatterns, HasRowsWith, variables_of_patterns}
 
 -- the place where x stands first
 abbrev pub first_place : List ℕ → ℕ → ℕ
@@ -35,7 +35,7 @@ pub record CanJoin (p : Plan) (numbers : ℕ) (out : Collection) : Type 0 where
 
 -- t comes of r and the marked row s
 pub record Pairs (p : Plan) (marks : List Bool) (r s t : List ℕ) : Type 0 where
-  pub marked : AreMarked marks s
+  pub marked : AllMarked marks s
   pub joined : IsJoinOf p.left.items p.right.items p.kept.items r s t
 
 -- t comes of r and one of the rows
@@ -64,12 +64,12 @@ pub record FitPattern (tables : List NumberTable) (p : Pattern) : Type 0 where
   pub width : (numbers_of_table tables p.table).width ≡ length p.variables.items
 
 -- the patterns fit the tables, and their variables can be counted
-pub record AreJoinable (tables : List NumberTable) (patterns : List Pattern) : Type 0 where
+pub record JoinableHere (tables : List NumberTable) (patterns : List Pattern) : Type 0 where
   pub fit : Each patterns (FitPattern tables)
   pub few : length (variables_of_patterns patterns) < 2 ^ 32
 
 -- the variables are some of these, and can be counted
-pub record AreFewAmong (names variables : List ℕ) : Type 0 where
+pub record FewAmong (names variables : List ℕ) : Type 0 where
   pub known : variables ⊆ names
   pub few : length variables < 2 ^ 32
 
@@ -82,12 +82,12 @@ pub record IsPartialTable (p : Partial) : Type 0 where
 abbrev pub StepsTo : List NumberTable → List Bool → Partial → Pattern → List ℕ → List ℕ → Type 0
 StepsTo tables marks p pattern kept t =
     (r : List ℕ) × (r ∈ p.rows.rows) × (s : List ℕ) × (s ∈ (numbers_of_table tables pattern.table).rows)
-    × AreMarked marks s × IsJoinOf p.variables.items pattern.variables.items kept r s t
+    × AllMarked marks s × IsJoinOf p.variables.items pattern.variables.items kept r s t
 
 -- the partial matches are those of the patterns that are done, for the variables that are needed
 pub record HoldsPartialMatches (tables : List NumberTable) (marks : List Bool)
     (done later : List Pattern) (wanted : List ℕ) (p : Partial) : Type 0 where
-  pub told : AreRowsWith (MatchesPatterns tables marks done) p.variables.items p.rows.rows
+  pub told : HasRowsWith (MatchesPatterns tables marks done) p.variables.items p.rows.rows
   pub kept : (x : ℕ) → x ∈ variables_of_patterns done → IsVariableNeeded later wanted x → x ∈ p.variables.items
   pub once : Distinct p.variables.items
   pub wide : p.rows.width ≡ length p.variables.items
@@ -105,8 +105,8 @@ IsMatchRow tables marks patterns shown t =
     (numbers : ℕ → ℕ) × MatchesPatterns tables marks patterns numbers × (t ≡ map numbers shown)
 
 -- the rows are what the matches of the patterns give to the variables
-abbrev pub AreMatchRows : List NumberTable → List Bool → List Pattern → List ℕ → NumberTable → Type 0
-AreMatchRows tables marks patterns shown t = AreThose (length shown) (IsMatchRow tables marks patterns shown) t
+abbrev pub HasMatchRows : List NumberTable → List Bool → List Pattern → List ℕ → NumberTable → Type 0
+HasMatchRows tables marks patterns shown t = RowsExactly (length shown) (IsMatchRow tables marks patterns shown) t
 
 -- x is added to distinct numbers, if it is not there
 pub record AddsOnce (old new : List ℕ) (x : ℕ) : Type 0 where

@@ -7,7 +7,7 @@ use Rattle.dx_joins.specs.declared.parts.Part.{Part}
 use Rattle.dx_joins.specs.Collecting.{MoreThan}
 use Rattle.dx_joins.specs.Joining.{variables_of_patterns}
 use Rattle.dx_joins.specs.Looking.{numbers_at_places}
-use Rattle.dx_joins.specs.Planning.{IsMatchRow, AreMatchRows}
+use Rattle.dx_joins.specs.Planning.{IsMatchRow, HasMatchRows}
 
 -- no variable of the first patterns stands in the others
 abbrev pub ShareNone : List Pattern → List Pattern → Type 0
@@ -25,7 +25,7 @@ Crosses lefts rights places t = (r : List ℕ) × (r ∈ lefts) × CrossesWith r
 abbrev pub GivesRows : List NumberTable → List Bool → ℕ → List Pattern → List ℕ → Option NumberTable → Type 0
 GivesRows tables marks most patterns variables o =
     MatchOption o (MoreThan most (IsMatchRow tables marks patterns variables))
-    (λ r. AreMatchRows tables marks patterns variables r)
+    (λ r. HasMatchRows tables marks patterns variables r)
 
 -- the part is what the patterns give to those of their variables that are shown
 pub record IsPartOf (tables : List NumberTable) (marks : List Bool) (most : ℕ) (patterns : List Pattern)

@@ -9,7 +9,7 @@ use Rattle.dx_model.specs.declared.rules.Cell.TheVariants.{Var}
 use Rattle.dx_model.specs.declared.rules.Atom.{Atom}
 use Rattle.dx_model.specs.declared.rules.Derived.{Derived}
 use Rattle.dx_model.specs.Values.{Conversions, Tuple}
-use Rattle.dx_model.specs.Tables.{AreWithin}
+use Rattle.dx_model.specs.Tables.{AllInside}
 use Rattle.dx_model.specs.Rules.{Derive, after_cells, cells_of, premise_fact}
 use Rattle.dx_model.specs.Fitting.{AtomsFitWidths, IsVariable, cell_variable}
 use Rattle.dx_instance.specs.Numbers.{value_of}
@@ -29,8 +29,8 @@ abbrev pub texts_of : List Value → List ℕ → Tuple
 texts_of symbols row = map (λ n. text_of_value (value_of symbols n)) row
 
 -- each number stands for a text
-abbrev pub AreTexts : List Value → List ℕ → Type 0
-AreTexts symbols row = Each row (λ n. (n < length symbols) × (is_text (value_of symbols n) ≡ true))
+abbrev pub AllTexts : List Value → List ℕ → Type 0
+AllTexts symbols row = Each row (λ n. (n < length symbols) × (is_text (value_of symbols n) ≡ true))
 
 -- the texts make a match of a premise with derived variables, as in a rule
 pub record IsFound (convert : Conversions) (premise : List Atom) (derived : List Derived)
@@ -47,7 +47,7 @@ IsMatchTuple convert premise derived I shown t =
 pub record StandFor (columns : ℕ) (P : Tuple → Type 0) (symbols : List Value) (table : NumberTable) : Type 0 where
   pub width : table.width ≡ columns
   pub ascend : NumbersAscend table.rows
-  pub texts : Each table.rows (AreTexts symbols)
+  pub texts : Each table.rows (AllTexts symbols)
   pub exact : (t : Tuple) → (t ∈ map (texts_of symbols) table.rows) ↔ P t
 
 -- more than so many different tuples have P
@@ -70,7 +70,7 @@ pub record FitsMatching (widths : List ℕ) (premise : List Atom) (derived : Lis
   pub plain : Each premise (λ a. Each a.cells IsVariable)
   pub wide : AtomsFitWidths widths premise
   pub numbered : (x : ℕ) → x < after_cells (cells_of premise) → Var x ∈ cells_of premise
-  pub args : Each derived (λ e. AreWithin e.args (after_cells (cells_of premise)))
+  pub args : Each derived (λ e. AllInside e.args (after_cells (cells_of premise)))
   pub known : Each shown (λ x. x < after_cells (cells_of premise) + length derived)
   pub numbers : after_cells (cells_of premise) + length derived < 2 ^ 32
   pub few : length (cells_of premise) < 2 ^ 32

@@ -3,7 +3,7 @@ ghost use Rattle.std.specs.Prelude.{◌≡◌, ◌↔◌, ◌<◌, ◌≤◌, �
 ghost use Rattle.std.specs.Bool.{OnTrue};
 ghost use Rattle.dx_base.specs.Members.{◌∈◌, ◌⊆◌};
 ghost use Rattle.dx_instance.specs.Cells.{NumbersAscend};
-ghost use Rattle.dx_joins.specs.Collecting.{AreThose, Collects, FirstAscend, MoreThan};
+ghost use Rattle.dx_joins.specs.Collecting.{RowsExactly, Collects, FirstAscend, MoreThan};
 
 use dx_base::no_number_left;
 use dx_instance::Rows;
@@ -134,7 +134,7 @@ impl Collected {
     pub(crate) fn finish(self) -> Result<Option<Rows>, AllocError>
         ensures { IfOk result (λ o. MatchOption o
             (MoreThan self.most (λ t. t ∈ self.rows))
-            (λ r. AreThose self.width (λ t. t ∈ self.rows) r × (length r.rows ≤ self.most))) }
+            (λ r. RowsExactly self.width (λ t. t ∈ self.rows) r × (length r.rows ≤ self.most))) }
     {
         let Collected {
             alloc,

@@ -3,9 +3,9 @@ ghost use Rattle.std.specs.Prelude.{◌≡◌, ◌<◌, ◌+◌, ◌^◌, ◌∷
 ghost use Rattle.dx_base.specs.Members.{◌⊆◌, Each};
 ghost use Rattle.dx_model.specs.declared.values.Value.TheVariants.{Const};
 ghost use Rattle.dx_model.specs.Rules.{text_of};
-ghost use Rattle.dx_instance.specs.Numbers.{AreDistinctValues, Extends, value_of};
+ghost use Rattle.dx_instance.specs.Numbers.{ValuesDiffer, Extends, value_of};
 ghost use Rattle.dx_instance.specs.Ranks.{text_of_value};
-ghost use Rattle.dx_joins.specs.Shown.{AreTexts, texts_of};
+ghost use Rattle.dx_joins.specs.Shown.{AllTexts, texts_of};
 ghost use Rattle.dx_joins.specs.Derivations.{IsComputed, IsTextRow, derived_value, with_derived};
 
 use crate::plan::place;
@@ -26,7 +26,7 @@ pub(crate) struct Derivation<'a> {
 
 // The text for which a number stands.
 fn text_at(symbols: &Symbols, number: u32) -> Result<Text, AllocError>
-    requires { AreTexts symbols.now (number ∷ []) }
+    requires { AllTexts symbols.now (number ∷ []) }
     ensures { IfOk result (λ t. t ≡ text_of_value (value_of symbols.now number)) }
 {
     match symbols.value(number as u64) {
@@ -45,7 +45,7 @@ fn texts_for(
 ) -> Result<Items<Text>, AllocError>
     requires known { variables.now ⊆ names.now }
     requires many { length row.now ≡ length names.now }
-    requires texts { AreTexts symbols.now row.now }
+    requires texts { AllTexts symbols.now row.now }
     ensures { IfOk result (λ t. t ≡ map (text_of names.now (texts_of symbols.now row.now)) variables.now) }
 {
     let mut texts = Items::new(alloc);
@@ -67,7 +67,7 @@ fn derived_number<F: Fn(u32, &Items<Text>) -> Result<Text, AllocError>, M: Meani
     requires computed { IsComputed F.Fn M.apply host.now names.now derived.now }
     requires row { IsTextRow symbols.old (length names.now) row.now }
     ensures grows { Extends symbols.old symbols.new }
-    ensures apart { AreDistinctValues symbols.new }
+    ensures apart { ValuesDiffer symbols.new }
     ensures within { IfOk result (λ n. n < length symbols.new) }
     ensures value { IfOk result (λ n. value_of symbols.new n
         ≡ Const (derived_value M.apply names.now derived.now (texts_of symbols.old row.now))) }
@@ -91,8 +91,8 @@ impl<'a> Derivation<'a> {
         requires computed { Each self.now.derived.now (IsComputed F.Fn M.apply host.now self.now.wanted.now) }
         requires row { IsTextRow symbols.old (length self.now.wanted.now) row.now }
         ensures grows { Extends symbols.old symbols.new }
-        ensures apart { AreDistinctValues symbols.new }
-        ensures texts { OnOk result (AreTexts symbols.new buffer.new.items) }
+        ensures apart { ValuesDiffer symbols.new }
+        ensures texts { OnOk result (AllTexts symbols.new buffer.new.items) }
         ensures shown { OnOk result (texts_of symbols.new buffer.new.items
             ≡ with_derived M.apply self.now.wanted.now self.now.derived.now (texts_of symbols.old row.now)) }
     {

@@ -1,6 +1,6 @@
 // A join of partial matches with the rows of a pattern's table.
 ghost use Rattle.std.specs.Prelude.{◌≡◌, ◌<◌, IfOk, IfSome, length};
-ghost use Rattle.dx_instance.specs.Shown.{AreBelow, numbers_of_table};
+ghost use Rattle.dx_instance.specs.Shown.{NumbersBelow, numbers_of_table};
 ghost use Rattle.dx_joins.specs.Collecting.{Collects};
 ghost use Rattle.dx_joins.specs.Planning.{CanJoin, IndexesTable, IsJoinPlan, Pairs, PairsIn, PairsOf};
 
@@ -34,7 +34,7 @@ impl<'a, 'n> Pairing<'a, 'n> {
     ) -> Result<bool, AllocError>
         requires ready { CanJoin self.now.plan.now (length left.now) out.old }
         requires right { length right.now ≡ length self.now.plan.now.right.items }
-        requires below { AreBelow (length self.now.marks.now) right.now }
+        requires below { NumbersBelow (length self.now.marks.now) right.now }
         ensures { IfOk result (λ full. Collects full out.old out.new (Pairs self.now.plan.now self.now.marks.now left.now right.now)) }
     {
         if !are_marked(self.marks, right) {

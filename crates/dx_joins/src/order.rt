@@ -3,7 +3,7 @@ ghost use Rattle.std.specs.Prelude.{◌≡◌, ◌<◌, ◌≤◌, [], IfOk, IfS
 ghost use Rattle.dx_base.specs.Members.{Each};
 ghost use Rattle.dx_joins.specs.Collecting.{MoreThan};
 ghost use Rattle.dx_joins.specs.Joining.{variables_of_patterns};
-ghost use Rattle.dx_joins.specs.Planning.{AreFewAmong, AreJoinable, FitPattern, IsMatchRow, AreMatchRows};
+ghost use Rattle.dx_joins.specs.Planning.{FewAmong, JoinableHere, FitPattern, IsMatchRow, HasMatchRows};
 
 use crate::known::Known;
 use crate::marked::Marked;
@@ -80,11 +80,11 @@ pub(crate) fn ordered_rows(
     most: u64,
 ) -> Result<Option<Rows>, AllocError>
     requires some { ¬ (patterns.items ≡ []) }
-    requires joinable { AreJoinable marked.now.source.now.tables patterns.items }
-    requires shown { AreFewAmong (variables_of_patterns patterns.items) shown.now }
+    requires joinable { JoinableHere marked.now.source.now.tables patterns.items }
+    requires shown { FewAmong (variables_of_patterns patterns.items) shown.now }
     ensures rows { IfOk result (λ o. MatchOption o
         (MoreThan most (IsMatchRow marked.now.source.now.tables marked.now.marks.now patterns.items shown.now))
-        (λ r. AreMatchRows marked.now.source.now.tables marked.now.marks.now patterns.items shown.now r)) }
+        (λ r. HasMatchRows marked.now.source.now.tables marked.now.marks.now patterns.items shown.now r)) }
     ensures within { IfOk result (λ o. IfSome o (λ r. length r.rows ≤ most)) }
 {
     let ordered = in_order(alloc, patterns, marked.source)?;

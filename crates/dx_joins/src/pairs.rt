@@ -1,16 +1,16 @@
 // Pairs of rows.
 ghost use Rattle.std.specs.Prelude.{◌≡◌, ◌↔◌, ◌<◌, ◌+◌, ◌++◌, OnOk, IsTrue, length, slice_index};
 ghost use Rattle.dx_base.specs.Members.{Each};
-ghost use Rattle.dx_instance.specs.Shown.{AreBelow};
-ghost use Rattle.dx_joins.specs.Joining.{AreMarked};
+ghost use Rattle.dx_instance.specs.Shown.{NumbersBelow};
+ghost use Rattle.dx_joins.specs.Joining.{AllMarked};
 ghost use Rattle.dx_joins.specs.Looking.{numbers_at_places};
 
 use std::alloc::AllocError;
 
 /// Whether each number of the row is marked.
 pub(crate) fn are_marked(marks: &[bool], row: &[u32]) -> bool
-    requires { AreBelow (length marks.now) row.now }
-    ensures { IsTrue result ↔ AreMarked marks.now row.now }
+    requires { NumbersBelow (length marks.now) row.now }
+    ensures { IsTrue result ↔ AllMarked marks.now row.now }
 {
     for number in row {
         if !marks[*number as usize] {

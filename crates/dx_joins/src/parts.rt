@@ -2,7 +2,7 @@
 ghost use Rattle.std.specs.Prelude.{◌≡◌, ◌<◌, ◌≤◌, ◌^◌, ◌++◌, ◌∷◌, [], Some, IfOk, IfSome, MatchOption, length};
 ghost use Rattle.dx_joins.specs.Collecting.{MoreThan};
 ghost use Rattle.dx_joins.specs.Joining.{variables_of_patterns};
-ghost use Rattle.dx_joins.specs.Planning.{AreFewAmong, AreJoinable, IsMatchRow, AreMatchRows};
+ghost use Rattle.dx_joins.specs.Planning.{FewAmong, JoinableHere, IsMatchRow, HasMatchRows};
 ghost use Rattle.dx_joins.specs.Products.{IsPartOf, IsProduct, IsWide, PartGrows, StandsApart};
 
 use crate::apart::are_apart;
@@ -42,7 +42,7 @@ fn part_of(
     most: u64,
 ) -> Result<Part, AllocError>
     requires some { ¬ (patterns.now ≡ []) }
-    requires joinable { AreJoinable marked.now.source.now.tables patterns.now }
+    requires joinable { JoinableHere marked.now.source.now.tables patterns.now }
     requires wide { length shown.now < 2 ^ 32 }
     ensures { IfOk result (IsPartOf marked.now.source.now.tables marked.now.marks.now most patterns.now shown.now) }
 {
@@ -71,7 +71,7 @@ fn product(
 ) -> Result<Option<Rows>, AllocError>
     requires left { IsWide left.now }
     requires right { IsWide right.now }
-    requires kept { AreFewAmong (left.now.variables.items ++ right.now.variables.items) kept.now }
+    requires kept { FewAmong (left.now.variables.items ++ right.now.variables.items) kept.now }
     ensures rows { IfOk result (IsProduct most left.now right.now kept.now) }
     ensures within { IfOk result (λ o. IfSome o (λ r. length r.rows ≤ most)) }
 {
@@ -101,7 +101,7 @@ fn with_part(
 ) -> Result<Part, AllocError>
     requires whole { StandsApart patterns.now shown.now whole.now }
     requires some { ¬ (patterns.now ≡ []) }
-    requires joinable { AreJoinable marked.now.source.now.tables patterns.now }
+    requires joinable { JoinableHere marked.now.source.now.tables patterns.now }
     ensures { IfOk result (PartGrows marked.now.source.now.tables marked.now.marks.now most patterns.now shown.now whole.now) }
 {
     let part = part_of(alloc, patterns, shown, marked, most)?;
@@ -124,11 +124,11 @@ pub(crate) fn parts_rows(
     most: u64,
 ) -> Result<Option<Rows>, AllocError>
     requires some { ¬ (patterns.now ≡ []) }
-    requires joinable { AreJoinable marked.now.source.now.tables patterns.now }
-    requires shown { AreFewAmong (variables_of_patterns patterns.now) shown.now }
+    requires joinable { JoinableHere marked.now.source.now.tables patterns.now }
+    requires shown { FewAmong (variables_of_patterns patterns.now) shown.now }
     ensures rows { IfOk result (λ o. MatchOption o
         (MoreThan most (IsMatchRow marked.now.source.now.tables marked.now.marks.now patterns.now shown.now))
-        (λ r. AreMatchRows marked.now.source.now.tables marked.now.marks.now patterns.now shown.now r)) }
+        (λ r. HasMatchRows marked.now.source.now.tables marked.now.marks.now patterns.now shown.now r)) }
     ensures within { IfOk result (λ o. IfSome o (λ r. length r.rows ≤ most)) }
 {
     let mut whole = no_part(alloc)?;

@@ -1,10 +1,10 @@
 // The join of a premise, pattern by pattern.
 ghost use Rattle.std.specs.Prelude.{◌≡◌, ◌↔◌, ◌<◌, ◌≤◌, ◌+◌, ◌-◌, ◌^◌, ◌++◌, ◌∷◌, [], ℕ, IfOk, IfSome, OnOk, IsTrue, MatchOption, length};
 ghost use Rattle.dx_base.specs.Members.{◌∈◌, ◌⊆◌, Distinct, Each};
-ghost use Rattle.dx_joins.specs.Collecting.{AreThose, MoreThan};
+ghost use Rattle.dx_joins.specs.Collecting.{RowsExactly, MoreThan};
 ghost use Rattle.dx_joins.specs.Joining.{variables_of_patterns};
-ghost use Rattle.dx_joins.specs.Planning.{AddsOnce, AreFewAmong, AreJoinable, CarriesOn, FitPattern, IsVariableNeeded, IsMatchRow};
-ghost use Rattle.dx_joins.specs.Planning.{IsPartialTable, StepsTo, AreMatchRows};
+ghost use Rattle.dx_joins.specs.Planning.{AddsOnce, FewAmong, JoinableHere, CarriesOn, FitPattern, IsVariableNeeded, IsMatchRow};
+ghost use Rattle.dx_joins.specs.Planning.{IsPartialTable, StepsTo, HasMatchRows};
 
 use crate::collected::Collected;
 use crate::join::Pairing;
@@ -87,11 +87,11 @@ fn step(
     most: u64,
 ) -> Result<Option<Rows>, AllocError>
     requires partial { IsPartialTable partial.now }
-    requires kept { AreFewAmong (partial.now.variables.items ++ pattern.now.variables.items) kept.now }
+    requires kept { FewAmong (partial.now.variables.items ++ pattern.now.variables.items) kept.now }
     requires fits { FitPattern marked.now.source.now.tables pattern.now }
     ensures rows { IfOk result (λ o. MatchOption o
         (MoreThan most (StepsTo marked.now.source.now.tables marked.now.marks.now partial.now pattern.now kept.now))
-        (AreThose (length kept.now) (StepsTo marked.now.source.now.tables marked.now.marks.now partial.now pattern.now kept.now))) }
+        (RowsExactly (length kept.now) (StepsTo marked.now.source.now.tables marked.now.marks.now partial.now pattern.now kept.now))) }
     ensures within { IfOk result (λ o. IfSome o (λ r. length r.rows ≤ most)) }
 {
     let plan = Plan::build(alloc, &partial.variables, &pattern.variables, kept)?;
@@ -162,11 +162,11 @@ pub(crate) fn premise_rows(
     most: u64,
 ) -> Result<Option<Rows>, AllocError>
     requires some { ¬ (patterns.now ≡ []) }
-    requires joinable { AreJoinable marked.now.source.now.tables patterns.now }
-    requires shown { AreFewAmong (variables_of_patterns patterns.now) shown.now }
+    requires joinable { JoinableHere marked.now.source.now.tables patterns.now }
+    requires shown { FewAmong (variables_of_patterns patterns.now) shown.now }
     ensures rows { IfOk result (λ o. MatchOption o
         (MoreThan most (IsMatchRow marked.now.source.now.tables marked.now.marks.now patterns.now shown.now))
-        (λ r. AreMatchRows marked.now.source.now.tables marked.now.marks.now patterns.now shown.now r)) }
+        (λ r. HasMatchRows marked.now.source.now.tables marked.now.marks.now patterns.now shown.now r)) }
     ensures within { IfOk result (λ o. IfSome o (λ r. length r.rows ≤ most)) }
 {
     let last = patterns.len() - 1;

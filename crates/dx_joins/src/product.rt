@@ -1,7 +1,7 @@
 // Each row of a table of partial matches with each row of another.
 ghost use Rattle.std.specs.Prelude.{◌≡◌, ◌<◌, ◌≤◌, ◌+◌, ◌^◌, IfOk, IfSome, MatchOption, length};
 ghost use Rattle.dx_base.specs.Members.{Each};
-ghost use Rattle.dx_joins.specs.Collecting.{AreThose, Collects, MoreThan};
+ghost use Rattle.dx_joins.specs.Collecting.{RowsExactly, Collects, MoreThan};
 ghost use Rattle.dx_joins.specs.Products.{Crosses, CrossesWith};
 
 use crate::collected::Collected;
@@ -47,7 +47,7 @@ pub(crate) fn cross(
     requires few { length places.now < 2 ^ 32 }
     ensures rows { IfOk result (λ o. MatchOption o
         (MoreThan most (Crosses lefts.now.rows rights.now.rows places.now))
-        (AreThose (length places.now) (Crosses lefts.now.rows rights.now.rows places.now))) }
+        (RowsExactly (length places.now) (Crosses lefts.now.rows rights.now.rows places.now))) }
     ensures within { IfOk result (λ o. IfSome o (λ r. length r.rows ≤ most)) }
 {
     let mut out = Collected::new(alloc, places.len() as u32, most, rights.count());

@@ -6,11 +6,11 @@ ghost use Rattle.dx_model.specs.declared.rules.Derived.{Derived as AnyDerived};
 ghost use Rattle.dx_model.specs.Rules.{after_cells, cells_of};
 ghost use Rattle.dx_funcs.specs.Offers.{IsListed};
 ghost use Rattle.dx_funcs.specs.Serving.{Serves, offered};
-ghost use Rattle.dx_instance.specs.Numbers.{AreDistinctValues, Extends};
+ghost use Rattle.dx_instance.specs.Numbers.{ValuesDiffer, Extends};
 ghost use Rattle.dx_instance.specs.Stored.{widths};
 ghost use Rattle.dx_instance.specs.Shown.{shown_tables};
 ghost use Rattle.dx_joins.specs.Collecting.{TakesPlaces};
-ghost use Rattle.dx_joins.specs.Planning.{AreFewAmong};
+ghost use Rattle.dx_joins.specs.Planning.{FewAmong};
 ghost use Rattle.dx_joins.specs.Shown.{FitsMatching, IsMatchTuple, MoreTuples, StandFor, shown_facts};
 ghost use Rattle.dx_joins.specs.Derivations.{DerivesTo, GivenBy, HasTextRows, IsComputed, IsTextRow, IsVariableWanted};
 
@@ -121,7 +121,7 @@ fn derive_row<F: Fn(u32, &Items<Text>) -> Result<Text, AllocError>, M: Meaning>(
     requires row { IsTextRow symbols.old (length derivation.now.wanted.now) row.now }
     requires places { TakesPlaces (length derivation.now.wanted.now + length derivation.now.derived.now) places.now out.old }
     ensures grows { Extends symbols.old symbols.new }
-    ensures apart { AreDistinctValues symbols.new }
+    ensures apart { ValuesDiffer symbols.new }
     ensures derives { IfOk result (λ full. DerivesTo M.apply derivation.now.wanted.now derivation.now.derived.now places.now
         symbols.old symbols.new row.now full out.old out.new) }
 {
@@ -144,10 +144,10 @@ fn derived_rows<F: Fn(u32, &Items<Text>) -> Result<Text, AllocError>, M: Meaning
 ) -> Result<Option<Rows>, AllocError>
     requires computed { Each derivation.now.derived.now (IsComputed F.Fn M.apply host.now derivation.now.wanted.now) }
     requires rows { HasTextRows symbols.old (length derivation.now.wanted.now) rows.now }
-    requires shown { AreFewAmong
+    requires shown { FewAmong
         (derivation.now.wanted.now ++ range_with_len derivation.now.first (length derivation.now.derived.now)) shown.now }
     ensures grows { Extends symbols.old symbols.new }
-    ensures apart { AreDistinctValues symbols.new }
+    ensures apart { ValuesDiffer symbols.new }
     ensures rows { IfOk result (λ o. MatchOption o
         (MoreTuples most (GivenBy M.apply derivation.now.wanted.now derivation.now.derived.now derivation.now.first shown.now
         symbols.old rows.now.rows))
@@ -190,7 +190,7 @@ pub fn shown_rows<F: Fn(u32, &Items<Text>) -> Result<Text, AllocError>, M: Meani
     requires fits { FitsMatching (widths (shown_tables source.now.symbols source.now.tables)) premise.now derived.now shown.now }
     requires symbols { Extends source.now.symbols symbols.old }
     ensures grows { Extends symbols.old symbols.new }
-    ensures apart { AreDistinctValues symbols.new }
+    ensures apart { ValuesDiffer symbols.new }
     ensures rows { IfOk result (λ o. MatchOption o
         (MoreTuples most (IsMatchTuple M.apply premise.now derived.now (shown_facts source.now) shown.now))
         (StandFor (length shown.now) (IsMatchTuple M.apply premise.now derived.now (shown_facts source.now) shown.now) symbols.new)) }

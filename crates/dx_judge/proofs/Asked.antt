@@ -19,14 +19,14 @@ use Rattle.dx_model.specs.Tables.{cell, values_in}
 use Rattle.dx_model.specs.Values.{NullsAscend, null_at}
 use Rattle.dx_model.proofs.Maps.{same_null-refl, same_null-true}
 use Rattle.dx_instance.specs.Cells.{NumberTable}
-use Rattle.dx_instance.specs.Numbers.{AreDistinctValues, value_of}
-use Rattle.dx_instance.specs.Shown.{AreBelow, PartsFit, numbers_of_table, shown, shown_row, shown_tables}
+use Rattle.dx_instance.specs.Numbers.{ValuesDiffer, value_of}
+use Rattle.dx_instance.specs.Shown.{NumbersBelow, PartsFit, numbers_of_table, shown, shown_row, shown_tables}
 use Rattle.dx_instance.specs.Stored.{TableRows, facts, rows_of, table_at, HasTableIn}
 use Rattle.dx_instance.proofs.NumberFacts.{there_at}
 use Rattle.dx_instance.proofs.ShownFacts.{number_same}
 use Rattle.dx_instance.proofs.StoredFacts.{fact_from_row, fact_table, row_from_fact}
 use Rattle.dx_instance.proofs.ValueNumbers.{number_of, number_back, row_place}
-use Rattle.dx_blocks.specs.Nulls.{AreKnown, AreNulls}
+use Rattle.dx_blocks.specs.Nulls.{AllKnown, AreNulls}
 use Rattle.dx_blocks.proofs.NullLists.{place_is_one}
 use Rattle.dx_solver.specs.declared.atom.Term.{Term}
 use Rattle.dx_solver.specs.declared.atom.Term.TheVariants.{Variable}
@@ -87,14 +87,14 @@ place_is ns n k ascend m h e =
     place_is_one ns ascend k (place_in ns n) h r.0 (e ∙ sym r.1)
 
 -- the nulls of facts are known
-pub known_nulls : (F : List Fact) (ns : List NullId) → AreNulls F ns → Each F (λ f. AreKnown ns f.row)
+pub known_nulls : (F : List Fact) (ns : List NullId) → AreNulls F ns → Each F (λ f. AllKnown ns f.row)
 known_nulls F ns are f m n i = (are.exactly n).1 (in_flat_map (λ (e : Fact). e.row) m i)
 
 -- ---- numbers of values
 
 -- ---- what stands for values
 
-module _ (S : List Value) (apart : AreDistinctValues S) (ns : List NullId) where
+module _ (S : List Value) (apart : ValuesDiffer S) (ns : List NullId) where
   -- the numbers that something gives the variables
   abbrev numbers_by : (NullId → Value) → ℕ → ℕ
   numbers_by g k = number_of S (g (null_at ns k))
@@ -110,7 +110,7 @@ module _ (S : List Value) (apart : AreDistinctValues S) (ns : List NullId) where
       let back : null_at ns (place_in ns k) ≡ k = (place_there ns k (known k refl)).1 in
       rw s (sym (number_back S n apart h) ∙ (ap (number_of S) e ∙ ap (λ (m : NullId). number_of S (g m)) (sym back)))
 
-  row_says : (g : NullId → Value) (row : List Value) (terms : List Term) (r : List ℕ) → AreKnown ns row → AllZip (SaysValue S ns) row terms → AreBelow (length S) r
+  row_says : (g : NullId → Value) (row : List Value) (terms : List Term) (r : List ℕ) → AllKnown ns row → AllZip (SaysValue S ns) row terms → NumbersBelow (length S) r
       → shown_row S r ≡ map (moved g) row → r ≡ map (number_under (numbers_by g)) terms
   row_says g [] [] [] known z w e = refl
   row_says g [] [] (n ∷ r) known z w e = cc e
@@ -140,7 +140,7 @@ module _ (S : List Value) (apart : AreDistinctValues S) (ns : List NullId) where
 -- ---- the question
 
 module _ (S : List Value) (ts : List NumberTable) (fit : PartsFit S ts) (J : List TableRows) (shows : shown_tables S ts ≡ J) (ns : List NullId) (F : List Fact)
-    (known : Each F (λ f. AreKnown ns f.row)) (fits : Each F (HasTableIn J)) where
+    (known : Each F (λ f. AllKnown ns f.row)) (fits : Each F (HasTableIn J)) where
   table_there : (t : ℕ) → t < length J → t < length ts
   table_there t h = let l : length J ≡ length ts = sym (ap length shows) ∙ length-map ts (shown S) in subst (λ (n : ℕ). t < n) l h
 
@@ -150,7 +150,7 @@ module _ (S : List Value) (ts : List NumberTable) (fit : PartsFit S ts) (J : Lis
   rows_shown : (t : ℕ) → t < length ts → rows_of J t ≡ map (shown_row S) (numbers_of_table ts t).rows
   rows_shown t h = ap (λ (u : TableRows). u.rows) (table_shown t h)
 
-  below : (t : ℕ) (r : List ℕ) → t < length ts → r ∈ (numbers_of_table ts t).rows → AreBelow (length S) r
+  below : (t : ℕ) (r : List ℕ) → t < length ts → r ∈ (numbers_of_table ts t).rows → NumbersBelow (length S) r
   below t r h m = (fit.each (numbers_of_table ts t) (in_at ts t (record { width = 0; rows = [] }) h)).within r m
 
   -- the row of numbers that shows a fact
@@ -196,7 +196,7 @@ module _ (S : List Value) (ts : List NumberTable) (fit : PartsFit S ts) (J : Lis
             let h = (place_there ns n (k n refl)).0 in
             subst (λ (i : ℕ). i < length ns) e h
 
-        inside : (row : List Value) (terms : List Term) → AreKnown ns row → AllZip (SaysValue S ns) row terms → (v : ℕ) → Variable v ∈ terms → v < length ns
+        inside : (row : List Value) (terms : List Term) → AllKnown ns row → AllZip (SaysValue S ns) row terms → (v : ℕ) → Variable v ∈ terms → v < length ns
         inside [] [] k z v i = elim i [ ]
         inside [] (x ∷ terms) k z v i = absurd z
         inside (x ∷ row) [] k z v i = absurd z
@@ -270,14 +270,14 @@ zip_turned S orders ns (f ∷ F) (p ∷ all) z = (z.0, zip_turned S orders ns F 
 module _ (I : List TableRows) (orders : List (List ℕ)) (J : List TableRows) (turns : IsTurned I orders J)
     (wide_rows : Each I (λ (u : TableRows). Each u.rows (λ (r : List Value). length r ≡ u.width)))
     (S : List Value) (ts : List NumberTable) (fit : PartsFit S ts) (shows : shown_tables S ts ≡ J)
-    (ns : List NullId) (F : List Fact) (known : Each F (λ f. AreKnown ns f.row)) (fits : Each F (HasTableIn I)) where
+    (ns : List NullId) (F : List Fact) (known : Each F (λ f. AllKnown ns f.row)) (fits : Each F (HasTableIn I)) where
   abbrev G : List Fact
   G = map (fact_turned orders) F
 
-  known_turned : Each G (λ f. AreKnown ns f.row)
+  known_turned : Each G (λ f. AllKnown ns f.row)
   known_turned e m =
       let f = from_map (fact_turned orders) F m in
-      subst (λ (x : Fact). AreKnown ns x.row) f.2
+      subst (λ (x : Fact). AllKnown ns x.row) f.2
       (λ n i. known f.0 f.1 n (from_turned (order_at orders f.0.table) f.0.row (Null n) (can_turn I orders J turns wide_rows f.0 (fits f.0 f.1)).columns i))
 
   fits_turned : Each G (HasTableIn J)

@@ -42,7 +42,7 @@ use Rattle.dx_judge.specs.declared.verdict.Verdict.TheVariants as verdicts
 use Rattle.dx_judge.specs.declared.fault.JudgeFault.{JudgeFault}
 use Rattle.dx_judge.specs.declared.fault.JudgeFault.TheVariants as faults
 use Rattle.dx_judge.specs.Verdicts.{HasNoVerdict, IsJudgement, IsReason, IsVerdict, JudgeInput, PlaceHolds}
-use Rattle.dx_judge.specs.Laws.{AreSameFault, AreOneKind, AreOneWhy, EachHasVerdict, InputFits, JudgedOrLimit, NoClash, VerdictSays, VerdictsAreOne, VerdictsSay}
+use Rattle.dx_judge.specs.Laws.{SameFault, SameKind, SameWhy, EachHasVerdict, InputFits, JudgedOrLimit, NoClash, VerdictSays, VerdictsAreOne, VerdictsSay}
 use Rattle.dx_judge.proofs.Numbered.{each_or, one_first}
 use Rattle.dx_judge.proofs.Holding.{determination_holds, determination_or, keys_or, link_holds, link_or, links_or}
 use Rattle.dx_judge.proofs.Deciding.{maps_or, places_hold, rules_or}
@@ -70,7 +70,7 @@ module _ (convert : Conversions) (a : JudgeInput) where
 
   -- ---- of one kind
 
-  one_why : (v w : Why) → IsReason convert a v → IsReason convert a w → AreOneWhy v w
+  one_why : (v w : Why) → IsReason convert a v → IsReason convert a w → SameWhy v w
   one_why (whys.Rule i k) (whys.Rule j l) p q =
       let same : q.matches ≡ p.matches = (rows_of_all convert a.rules a.rows q.matches p.matches q.are p.are).0 in
       one_first (IsPlace a.rules p.matches) (PlaceHolds a.rules p.matches a.given) i k j l p.first
@@ -92,7 +92,7 @@ module _ (convert : Conversions) (a : JudgeInput) where
   one_why (whys.Link t row l) (whys.Link u other m) p q =
       one_first (HasLink a.schema) (LinkHolds a.schema a.given) t l u m p.first q.first
 
-  one_kind : (v w : Verdict) → IsVerdict convert a v → IsVerdict convert a w → AreOneKind v w
+  one_kind : (v w : Verdict) → IsVerdict convert a v → IsVerdict convert a w → SameKind v w
   one_kind (verdicts.NotSolution v) (verdicts.NotSolution w) p q = one_why v w p q
   one_kind (verdicts.NotSolution v) (verdicts.Solution L) p q = absurd (reason_so v p q.solution)
   one_kind (verdicts.NotSolution v) (verdicts.Universal k g) p q = absurd (reason_so v p q.universal.solution)
@@ -220,9 +220,9 @@ each_has_verdict convert list source a asked = verdict_there convert list source
 -- ---- within the limit
 
 pub judged_or_limit : JudgedOrLimit
-judged_or_limit convert list source = notions_decided AreSameFault (InputFits list source) (HasNoVerdict convert) (IsJudgement convert) alike never either
+judged_or_limit convert list source = notions_decided SameFault (InputFits list source) (HasNoVerdict convert) (IsJudgement convert) alike never either
   where
-    alike : (a : JudgeInput) (e f : JudgeFault) → InputFits list source a → HasNoVerdict convert a e → HasNoVerdict convert a f → AreSameFault e f
+    alike : (a : JudgeInput) (e f : JudgeFault) → InputFits list source a → HasNoVerdict convert a e → HasNoVerdict convert a f → SameFault e f
     alike a (faults.Limit l) (faults.Limit k) g p q = ap (λ (x : LimitOf). faults.Limit x) (p.0 ∙ sym q.0)
     alike a (faults.Limit l) faults.Memory g p q = absurd q
     alike a faults.Memory f g p q = absurd p

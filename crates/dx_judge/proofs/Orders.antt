@@ -16,12 +16,12 @@ use Rattle.dx_model.specs.Instances.{Moves, fact_moved, moved}
 use Rattle.dx_model.specs.Tables.{cell, values_in}
 use Rattle.dx_instance.specs.Cells.{NumberTable}
 use Rattle.dx_instance.specs.Numbers.{value_of}
-use Rattle.dx_instance.specs.Shown.{AreBelow, NumbersFit, PartsFit, NumberRowsFit, numbers_of_table, shown, shown_row, shown_tables}
+use Rattle.dx_instance.specs.Shown.{NumbersBelow, NumbersFit, PartsFit, NumberRowsFit, numbers_of_table, shown, shown_row, shown_tables}
 use Rattle.dx_instance.specs.Stored.{IsSorting, TableRows, facts, rows_of, table_at, widths, HasTableIn}
 use Rattle.dx_instance.proofs.StoredFacts.{fact_from_row, fact_table, row_from_fact, sorting_facts}
 use Rattle.dx_judge.specs.Open.{CanMove}
 use Rattle.dx_judge.specs.Turned.{AreOrders, CanTurn, IsTurned, fact_turned, order_at}
-use Rattle.dx_judge.specs.Turning.{AreOrdersOf, AreTablesTurned, IsColumnOrder, row_turned}
+use Rattle.dx_judge.specs.Turning.{OrdersColumns, TablesTurned, IsColumnOrder, row_turned}
 
 -- ---- one row
 
@@ -158,8 +158,8 @@ shown_turned S (c ∷ order) row within =
 abbrev no_numbers : NumberTable
 no_numbers = record { width = 0; rows = [] }
 
-module _ (S : List Value) (ts us : List NumberTable) (orders : List (List ℕ)) (fit : PartsFit S ts) (are : AreOrdersOf ts orders)
-    (turned : AreTablesTurned orders ts us) where
+module _ (S : List Value) (ts us : List NumberTable) (orders : List (List ℕ)) (fit : PartsFit S ts) (are : OrdersColumns ts orders)
+    (turned : TablesTurned orders ts us) where
   abbrev I : List TableRows
   I = shown_tables S ts
 
@@ -273,7 +273,7 @@ module _ (S : List Value) (ts us : List NumberTable) (orders : List (List ℕ)) 
         within = λ r i. below k.0 h r (subst (λ (rs : List (List ℕ)). r ∈ rs) (turned.each k.0 h).rows i);
       })
     where
-      below : (q : ℕ) → q < length ts → (r : List ℕ) → r ∈ map (row_turned (order_at orders q)) (numbers_of_table ts q).rows → AreBelow (length S) r
+      below : (q : ℕ) → q < length ts → (r : List ℕ) → r ∈ map (row_turned (order_at orders q)) (numbers_of_table ts q).rows → NumbersBelow (length S) r
       below q h r m x n =
           let old = from_map (row_turned (order_at orders q)) (numbers_of_table ts q).rows m in
           let c = from_map (slice_index old.0) (order_at orders q) (subst (λ (rs : List ℕ). x ∈ rs) (sym old.2) n) in

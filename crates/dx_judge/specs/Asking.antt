@@ -15,7 +15,7 @@ use Rattle.dx_solver.specs.declared.atom.PatternAtom.{PatternAtom}
 use Rattle.dx_judge.specs.Turned.{fact_turned}
 
 -- nulls in ascending order, so few that the place of each is a variable
-pub record AreNullVariables (ns : List NullId) : Type 0 where
+pub record NullVariables (ns : List NullId) : Type 0 where
   pub ascend : NullsAscend ns
   pub few : length ns < 2 ^ 32
 

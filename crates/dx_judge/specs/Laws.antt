@@ -33,25 +33,25 @@ abbrev pub VerdictsSay : Type 0
 VerdictsSay = (convert : Conversions) (a : JudgeInput) (v : Verdict) → IsVerdict convert a v → VerdictSays convert a v
 
 -- reasons of one place of a rule, of one determination of a table, of one link of a table
-abbrev pub AreOneWhy : Why → Why → Type 0
-AreOneWhy (whys.Rule i k) (whys.Rule j l) = (i ≡ j) × (k ≡ l)
-AreOneWhy (whys.Key t k one other c) (whys.Key u l two more d) = (t ≡ u) × (k ≡ l)
-AreOneWhy (whys.Link t row l) (whys.Link u other m) = (t ≡ u) × (l ≡ m)
-AreOneWhy _ _ = ⊥
+abbrev pub SameWhy : Why → Why → Type 0
+SameWhy (whys.Rule i k) (whys.Rule j l) = (i ≡ j) × (k ≡ l)
+SameWhy (whys.Key t k one other c) (whys.Key u l two more d) = (t ≡ u) × (k ≡ l)
+SameWhy (whys.Link t row l) (whys.Link u other m) = (t ≡ u) × (l ≡ m)
+SameWhy _ _ = ⊥
 
 -- verdicts of one kind, and if they give reasons, these are one
-abbrev pub AreOneKind : Verdict → Verdict → Type 0
-AreOneKind (verdicts.NotSolution why) (verdicts.NotSolution other) = AreOneWhy why other
-AreOneKind (verdicts.Solution K) (verdicts.Solution L) = Unit {0}
-AreOneKind (verdicts.Universal h f) (verdicts.Universal k g) = Unit {0}
-AreOneKind verdicts.Core verdicts.Core = Unit {0}
-AreOneKind _ _ = ⊥
+abbrev pub SameKind : Verdict → Verdict → Type 0
+SameKind (verdicts.NotSolution why) (verdicts.NotSolution other) = SameWhy why other
+SameKind (verdicts.Solution K) (verdicts.Solution L) = Unit {0}
+SameKind (verdicts.Universal h f) (verdicts.Universal k g) = Unit {0}
+SameKind verdicts.Core verdicts.Core = Unit {0}
+SameKind _ _ = ⊥
 
 -- two verdicts on one instance are of one kind
 abbrev pub VerdictsAreOne : Type 0
 VerdictsAreOne =
     (convert : Conversions) (a : JudgeInput) (v w : Verdict) → IsVerdict convert a v
-    → IsVerdict convert a w → AreOneKind v w
+    → IsVerdict convert a w → SameKind v w
 
 -- rules that fit, and an instance of the target's schema
 pub record InputFits (list : List Conversion) (source : List Table) (a : JudgeInput) : Type 0 where
@@ -84,11 +84,11 @@ NoClash =
     → AreRows convert R I rows → IsSolution convert R schema I K → ¬ (NoneReceives schema (canonical 0 R rows))
 
 -- two reasons why there is no verdict are one
-abbrev pub AreSameFault : JudgeFault → JudgeFault → Type 0
-AreSameFault e f = e ≡ f
+abbrev pub SameFault : JudgeFault → JudgeFault → Type 0
+SameFault e f = e ≡ f
 
 -- what fits is judged, or the canonical cells pass the limit, and never both
 abbrev pub JudgedOrLimit : Type 0
 JudgedOrLimit =
     (convert : Conversions) (list : List Conversion) (source : List Table)
-    → IsDecided AreSameFault (InputFits list source) (judging convert)
+    → IsDecided SameFault (InputFits list source) (judging convert)

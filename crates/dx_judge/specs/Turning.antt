@@ -16,7 +16,7 @@ pub record IsColumnOrder (width : ℕ) (order : List ℕ) : Type 0 where
   pub exactly : (c : ℕ) → (c ∈ order) ↔ (c < width)
 
 -- for each table its columns in some order
-pub record AreOrdersOf (ts : List NumberTable) (orders : List (List ℕ)) : Type 0 where
+pub record OrdersColumns (ts : List NumberTable) (orders : List (List ℕ)) : Type 0 where
   pub many : length orders ≡ length ts
   pub each : (t : ℕ) → t < length ts → IsColumnOrder (numbers_of_table ts t).width (order_at orders t)
 
@@ -30,7 +30,7 @@ pub record IsTableTurned (order : List ℕ) (old new : NumberTable) : Type 0 whe
   pub rows : new.rows ≡ map (row_turned order) old.rows
 
 -- so it is with each table and its order
-pub record AreTablesTurned (orders : List (List ℕ)) (old new : List NumberTable) : Type 0 where
+pub record TablesTurned (orders : List (List ℕ)) (old new : List NumberTable) : Type 0 where
   pub many : length new ≡ length old
   pub each : (t : ℕ) → t < length old
       → IsTableTurned (order_at orders t) (numbers_of_table old t) (numbers_of_table new t)

@@ -6,9 +6,9 @@ ghost use Rattle.dx_model.specs.declared.values.NullId.{NullId as Id};
 ghost use Rattle.dx_model.specs.declared.values.Value.TheVariants.{Null};
 ghost use Rattle.dx_model.specs.Tables.{values_in};
 ghost use Rattle.dx_model.specs.Values.{NullsAscend, null_at};
-ghost use Rattle.dx_blocks.specs.Nulls.{AreKnown};
+ghost use Rattle.dx_blocks.specs.Nulls.{AllKnown};
 ghost use Rattle.dx_solver.specs.Questions.{FitsAtom, HasImageRow};
-ghost use Rattle.dx_judge.specs.Asking.{AreNullVariables, HasStranger, HasStrangerIn, IsStranger, SaysTurned, SaysValue, place_in};
+ghost use Rattle.dx_judge.specs.Asking.{NullVariables, HasStranger, HasStrangerIn, IsStranger, SaysTurned, SaysValue, place_in};
 ghost use Rattle.dx_judge.specs.Turned.{CanTurn};
 
 use dx_base::Items;
@@ -32,7 +32,7 @@ fn place_of(nulls: &[NullId], null: &NullId) -> usize
 
 // The variable that stands for a null: its place among the nulls.
 fn variable_of(nulls: &[NullId], null: &NullId) -> u32
-    requires nulls { AreNullVariables nulls.now }
+    requires nulls { NullVariables nulls.now }
     requires known { null.now ∈ nulls.now }
     ensures { result ≡ place_in nulls.now null.now }
 {
@@ -41,7 +41,7 @@ fn variable_of(nulls: &[NullId], null: &NullId) -> u32
 
 // The term that stands for a value. There is none if a constant has no number.
 fn term_of(value: &Value, nulls: &[NullId], numbers: &Numbers<'_>) -> Option<Term>
-    requires nulls { AreNullVariables nulls.now }
+    requires nulls { NullVariables nulls.now }
     requires known { (n : Id) → value.now ≡ Null n → n ∈ nulls.now }
     ensures { MatchOption result (IsStranger numbers.now.symbols value.now) (SaysValue numbers.now.symbols nulls.now value.now) }
 {
@@ -63,8 +63,8 @@ fn terms_of(
     numbers: &Numbers<'_>,
 ) -> Result<Option<Terms>, AllocError>
     requires order { Each order.now (λ c. c < length row.now) }
-    requires nulls { AreNullVariables nulls.now }
-    requires known { AreKnown nulls.now row.now }
+    requires nulls { NullVariables nulls.now }
+    requires known { AllKnown nulls.now row.now }
     ensures { IfOk result (λ o. MatchOption o (HasStranger numbers.now.symbols (values_in order.now row.now))
         (AllZip (SaysValue numbers.now.symbols nulls.now) (values_in order.now row.now))) }
 {
@@ -92,8 +92,8 @@ pub(crate) fn atoms_of(
     numbers: &Numbers<'_>,
 ) -> Result<Option<Vec<PatternAtom>>, AllocError>
     requires orders { Each facts.now (CanTurn orders.now) }
-    requires nulls { AreNullVariables nulls.now }
-    requires known { Each facts.now (λ f. AreKnown nulls.now f.row) }
+    requires nulls { NullVariables nulls.now }
+    requires known { Each facts.now (λ f. AllKnown nulls.now f.row) }
     ensures { IfOk result (λ o. MatchOption o (HasStrangerIn numbers.now.symbols orders.now facts.now)
         (λ all. AllZip (SaysTurned numbers.now.symbols orders.now nulls.now) facts.now all.items)) }
 {

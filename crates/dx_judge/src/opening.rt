@@ -5,7 +5,7 @@ ghost use Rattle.dx_model.specs.Fitting.{AtomsFitWidths};
 ghost use Rattle.dx_model.specs.Matches.{rows_of_matches};
 ghost use Rattle.dx_instance.specs.Stored.{facts, widths};
 ghost use Rattle.dx_judge.specs.Turning.{IsTurnedOne};
-ghost use Rattle.dx_judge.specs.Open.{AreMatchesOf, AreTuplesOf, IsFirstOpen, IsFirstTuple, IsTupleOf, TupleHolds};
+ghost use Rattle.dx_judge.specs.Open.{MatchesOfRules, TuplesOfRule, IsFirstOpen, IsFirstTuple, IsTupleOf, TupleHolds};
 
 use crate::moving::moves_into;
 use crate::saying::facts_said;
@@ -48,7 +48,7 @@ fn first_tuple(
 ) -> Result<Option<u32>, AllocError>
     requires conclusion { AtomsFitWidths (widths given.now.plain.now) rule.now.conclusion }
     requires turned { IsTurnedOne given.now }
-    requires tuples { AreTuplesOf rule.now places.now.tuples }
+    requires tuples { TuplesOfRule rule.now places.now.tuples }
     ensures { IfOk result (IsFirstTuple rule.now (facts given.now.plain.now) places.now.tuples) }
 {
     let variables = exported(alloc, rule)?;
@@ -74,7 +74,7 @@ pub(crate) fn first_open(
 ) -> Result<Option<OpenPlace>, AllocError>
     requires conclusions { Each rules.now (λ d. AtomsFitWidths (widths given.now.plain.now) d.conclusion) }
     requires turned { IsTurnedOne given.now }
-    requires matches { AreMatchesOf rules.now matches.now }
+    requires matches { MatchesOfRules rules.now matches.now }
     ensures { IfOk result (IsFirstOpen rules.now (rows_of_matches matches.now) (facts given.now.plain.now)) }
 {
     for i in 0..rules.len() {

@@ -5,7 +5,7 @@ ghost use Rattle.dx_model.specs.Fitting.{AtomsFitWidths};
 ghost use Rattle.dx_model.specs.Matches.{rows_of_matches};
 ghost use Rattle.dx_schema.specs.Tables.{model_tables, schema_widths};
 ghost use Rattle.dx_instance.specs.Stored.{rows_of, widths};
-ghost use Rattle.dx_judge.specs.Open.{AreMatchesOf, IsFirstReason, IsKeyFault, IsKeyOrLink, IsLinkFault};
+ghost use Rattle.dx_judge.specs.Open.{MatchesOfRules, IsFirstReason, IsKeyFault, IsKeyOrLink, IsLinkFault};
 
 use crate::opening::first_open;
 use crate::turning::turn;
@@ -73,7 +73,7 @@ pub(crate) fn reason(
 ) -> Result<Option<Why>, AllocError>
     requires widths { widths given.now ≡ schema_widths target.now }
     requires conclusions { Each rules.now (λ d. AtomsFitWidths (widths given.now) d.conclusion) }
-    requires matches { AreMatchesOf rules.now matches.now }
+    requires matches { MatchesOfRules rules.now matches.now }
     ensures { IfOk result (IsFirstReason rules.now (rows_of_matches matches.now) (model_tables target.now) given.now) }
 {
     let turned = turn(alloc, given)?;

@@ -2,7 +2,7 @@
 ghost use Rattle.std.specs.Prelude.{◌≡◌, ◌<◌, IfOk, OnOk, length};
 ghost use Rattle.dx_base.specs.Members.{Each};
 ghost use Rattle.dx_instance.specs.Shown.{numbers_of_table};
-ghost use Rattle.dx_judge.specs.Turning.{AreOrdersOf, AreTablesTurned, IsColumnOrder, IsTableTurned, IsTurnedOne, row_turned};
+ghost use Rattle.dx_judge.specs.Turning.{OrdersColumns, TablesTurned, IsColumnOrder, IsTableTurned, IsTurnedOne, row_turned};
 
 use dx_base::Items;
 use dx_instance::{Instance, Numbers, Rows};
@@ -62,7 +62,7 @@ fn order_of(
 
 // Such an order for each table.
 fn orders_of(alloc: Global, numbers: &Numbers<'_>) -> Result<Vec<Items<u32>>, AllocError>
-    ensures { IfOk result (λ orders. AreOrdersOf numbers.now.tables orders.items) }
+    ensures { IfOk result (λ orders. OrdersColumns numbers.now.tables orders.items) }
 {
     let mut met = vec![in alloc; u32::MAX; numbers.len() as usize]?;
     let mut orders = Vec::new(alloc);
@@ -111,8 +111,8 @@ fn turn_tables(
     numbers: &Numbers<'_>,
     orders: &[Items<u32>],
 ) -> Result<Vec<Rows>, AllocError>
-    requires { AreOrdersOf numbers.now.tables orders.now }
-    ensures { IfOk result (λ tables. AreTablesTurned orders.now numbers.now.tables tables.items) }
+    requires { OrdersColumns numbers.now.tables orders.now }
+    ensures { IfOk result (λ tables. TablesTurned orders.now numbers.now.tables tables.items) }
 {
     let mut tables = Vec::new(alloc);
     for table in 0..numbers.tables() {

@@ -36,11 +36,11 @@ use Rattle.dx_chase.specs.Tables.{ChaseTable}
 use Rattle.dx_chase.specs.declared.rows.RowsChased.{RowsChased}
 use Rattle.dx_chase.specs.Boards.{firsts}
 use Rattle.dx_chase.specs.Joins.{IsNumberChase as IsChasedByNumber, AllFit, IsClashOfDemands as IsClashByNumber, nth, demand_at}
-use Rattle.dx_chase.specs.Rows.{TablesAreBelow, AreRowDemands, ColumnsFit, InRows, determination_columns, number_row, number_table}
+use Rattle.dx_chase.specs.Rows.{TablesAreBelow, DemandsOfRows, ColumnsFit, InRows, determination_columns, number_row, number_table}
 use Rattle.dx_keys.specs.declared.answers.Clash.{Clash}
 use Rattle.dx_keys.specs.declared.numbering.Numbering.{Numbering}
 use Rattle.dx_keys.specs.Answers.{IsChased, IsClash}
-use Rattle.dx_keys.specs.Numbers.{AreNumberRoots, AreTablesIn, AreValues, CanRead, IsClashByValues, IsNumberedInstance, determination_of, null_map_of, row_read}
+use Rattle.dx_keys.specs.Numbers.{NumberRoots, TablesWithin, AreValues, CanRead, IsClashByValues, IsNumberedInstance, determination_of, null_map_of, row_read}
 use Rattle.dx_keys.proofs.Demanding.{AreTablesOf, IsRowChase, IsRowClash, IsRowMap, determination_in, fact_of}
 use Rattle.dx_keys.proofs.Whole.{row_chase}
 use Rattle.dx_keys.proofs.EndsAnswered.{clash_turned}
@@ -80,7 +80,7 @@ less_of x y g d = by (row_cmp x y) refl
 -- ---- tables of numbers
 
 module _ (schema : List Table) (I : List TableRows) (S : List Value) (ts : List TableOfNumbers) (tables : List ChaseTable) (W : widths I ≡ map (λ (t : Table). t.width) schema)
-    (L : Each I (λ (t : TableRows). Each t.rows (λ (row : List Value). length row ≡ t.width))) (E : shown_tables S ts ≡ I) (P : PartsFit S ts) (T : AreTablesIn schema ts tables) where
+    (L : Each I (λ (t : TableRows). Each t.rows (λ (row : List Value). length row ≡ t.width))) (E : shown_tables S ts ≡ I) (P : PartsFit S ts) (T : TablesWithin schema ts tables) where
   fits : IsInstance schema (facts I)
   fits = facts_fit schema I W L
 
@@ -126,7 +126,7 @@ module _ (schema : List Table) (I : List TableRows) (S : List Value) (ts : List 
 
   -- ---- the chase of them
 
-  module _ (consts : ℕ) (c : RowsChased) (V : AreValues consts S) (Dt : DeterminationsFit schema) (R : AreRowDemands tables c.demands) (X : IsChasedByNumber (firsts (length S)) consts c.demands c.chased) where
+  module _ (consts : ℕ) (c : RowsChased) (V : AreValues consts S) (Dt : DeterminationsFit schema) (R : DemandsOfRows tables c.demands) (X : IsChasedByNumber (firsts (length S)) consts c.demands c.chased) where
     chased : IsRowChase schema S (facts I) tables c
     chased = row_chase schema S consts (facts I) tables c fits V (columns_fit Dt) are_below are_tables R X
 
@@ -210,7 +210,7 @@ module _ (schema : List Table) (I : List TableRows) (S : List Value) (ts : List 
 -- ---- what stands when the rows are chased, and after it
 
 pub record Done (n : Numbering) (rows : List ChaseTable) (c : RowsChased) : Type 0 where
-  pub demands : AreRowDemands rows c.demands
+  pub demands : DemandsOfRows rows c.demands
   pub ended : IsChasedByNumber (firsts (length n.symbols)) n.constants c.demands c.chased
 
 module _ (f : Forest) (I : List TableRows) (n : Numbering) (rows : List ChaseTable) (N : IsNumberedInstance f I n rows) where
@@ -224,7 +224,7 @@ module _ (f : Forest) (I : List TableRows) (n : Numbering) (rows : List ChaseTab
   numbers_below = are_below (model_tables f) I n.symbols n.tables.items rows by_schema N.wide N.numbering.is_shown N.numbering.parts N.listed
 
   module _ (c : RowsChased) (D : Done n rows c) where
-    pub roots_are_read : AreNumberRoots n.symbols c.chased.roots
+    pub roots_are_read : NumberRoots n.symbols c.chased.roots
     roots_are_read =
         (chased (model_tables f) I n.symbols n.tables.items rows by_schema N.wide N.numbering.is_shown N.numbering.parts N.listed n.constants c N.numbering.ordered N.determined D.demands D.ended).roots_are
 

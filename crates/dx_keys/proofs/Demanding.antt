@@ -14,7 +14,7 @@ use Rattle.dx_chase.specs.Tables.{ChaseTable}
 use Rattle.dx_chase.specs.declared.rows.RowsChased.{RowsChased}
 use Rattle.dx_chase.specs.Joins.{nth, demand_at, tag_of}
 use Rattle.dx_chase.specs.Rows.{determination_columns, number_row, row_count, number_table}
-use Rattle.dx_keys.specs.Numbers.{AreNumberRoots, determination_of, null_map_of, steps_of, row_read}
+use Rattle.dx_keys.specs.Numbers.{NumberRoots, determination_of, null_map_of, steps_of, row_read}
 
 -- each demand is that of a fact and a determination of its table; its numbers are those of the fact's values in the
 -- columns of the determination; demands that agree in table and determination are of one determination; and each two facts of a table have such demands
@@ -71,6 +71,6 @@ pub record IsRowMap (schema : List Table) (S : List Value) (A : List Fact) (c : 
 -- what a chase of the rows of an instance says of the facts
 pub record IsRowChase (schema : List Table) (S : List Value) (A : List Fact) (tables : List ChaseTable) (c : RowsChased) : Type 0 where
   pub steps : AreSteps schema A (steps_of S c.chased.steps)
-  pub roots_are : AreNumberRoots S c.chased.roots
+  pub roots_are : NumberRoots S c.chased.roots
   pub steps_in : Each c.chased.steps (λ s. (s.greater < length S) × (s.lesser < length S))
   pub ends : MatchOption c.chased.clash (IsRowMap schema S A c) (IsRowClash schema S A tables c)

@@ -14,7 +14,7 @@ use Rattle.dx_model.specs.Tables.{cell}
 use Rattle.dx_model.specs.Values.{value_cmp}
 use Rattle.dx_base.specs.Texts.{Text}
 use Rattle.dx_instance.specs.Cells.{NumberTable, numbers_at, with_numbers}
-use Rattle.dx_instance.specs.Numbers.{AreDistinctValues, IsOrdering, ValuesAscend, value_of}
+use Rattle.dx_instance.specs.Numbers.{ValuesDiffer, IsOrdering, ValuesAscend, value_of}
 use Rattle.dx_instance.specs.Shown.{NumbersFit, PartsFit, NumberRowsFit, renumbered, shown, shown_row, shown_tables}
 use Rattle.dx_instance.specs.Stored.{TableRows}
 use Rattle.dx_instance.proofs.NumberFacts.{self_equal}
@@ -83,7 +83,7 @@ pub rows_all : (t r : NumberTable) (p : ℕ) → length t.rows ≤ p → r ≡ f
 rows_all t r p h e = e ∙ with_rows t _ _ (take_all p t.rows h)
 
 -- numbers in order are apart
-pub apart : (S : List Value) → ValuesAscend S → AreDistinctValues S
+pub apart : (S : List Value) → ValuesAscend S → ValuesDiffer S
 apart S up i j d h k e = differ (sym (self_equal (get_or S i d)) ∙ (ap (value_cmp (get_or S i d)) e ∙ up i j d h k))
   where
     differ : Equal ≡ Less → ⊥

@@ -20,7 +20,7 @@ use Rattle.dx_chase.proofs.Opening.{at_first}
 use Rattle.dx_keys.specs.Numbers.{AreValues, null_of, null_pairs_from, null_map_of}
 use Rattle.dx_keys.proofs.Demanding.{AreDemandsOf, IsFactMap}
 use Rattle.dx_keys.proofs.Followed.{followed_first, followed_forced}
-use Rattle.dx_keys.proofs.Readings.{AreDistinct}
+use Rattle.dx_keys.proofs.Readings.{DistinctRanks}
 use Rattle.dx_keys.proofs.Bridge.{Stands, keys_hold, distinct}
 
 -- the values from a number on
@@ -40,7 +40,7 @@ view_first S = record { each = omega arith; same = λ j h. let e : j ≡ 0 + j =
 view_here : (S : List Value) (i : ℕ) (v : Value) (vs : List Value) → View S i (v ∷ vs) → (v ≡ cell S i) × (i < length S)
 view_here S i v vs W = (let e : i + 0 ≡ i = omega arith in W.same 0 (omega arith) ∙ ap (cell S) e, let q = W.each in omega arith)
 
-module _ (S : List Value) (roots : List ℕ) (D : AreDistinct S) (inside : (k : ℕ) → k < length S → nth roots k < length S)
+module _ (S : List Value) (roots : List ℕ) (D : DistinctRanks S) (inside : (k : ℕ) → k < length S → nth roots k < length S)
     (nulls : (k : ℕ) → k < length S → ¬ (nth roots k ≡ k) → (n : NullId) × (cell S k ≡ Null n)) where
   -- a pair is that of a number that is not its own root
   pub record IsPairAt (i : ℕ) (p : NullPair) : Type 0 where

@@ -10,7 +10,7 @@ use Rattle.dx_instance.specs.Shown.{numbers_of_table, shown}
 use Rattle.dx_instance.specs.Stored.{TableRows}
 use Rattle.dx_chase.specs.Tables.{ChaseTable}
 use Rattle.dx_chase.specs.Rows.{number_table}
-use Rattle.dx_keys.specs.Numbers.{AreTablesIn, IsNumbered, determination_of}
+use Rattle.dx_keys.specs.Numbers.{TablesWithin, IsNumbered, determination_of}
 use Rattle.dx_keys.specs.declared.numbering.Numbering.{Numbering}
 
 -- the determinations of a table of a schema, by its keys and its dependencies
@@ -43,7 +43,7 @@ first_more schema rows n old new x F e r d = rw e (record {
     last : (t : ℕ) → n ≡ t → number_table (old ++ x ∷ []) t ≡ x
     last t q = get_or_push old x _ t (F.many ∙ q)
 
-pub first_all : (schema : List Numbers) (rows : List TableOfNumbers) (n : ℕ) (tables : List ChaseTable) → AreFirst schema rows n tables → n ≡ length rows → AreTablesIn schema rows tables
+pub first_all : (schema : List Numbers) (rows : List TableOfNumbers) (n : ℕ) (tables : List ChaseTable) → AreFirst schema rows n tables → n ≡ length rows → TablesWithin schema rows tables
 first_all schema rows n tables F e = record {
   many = F.many ∙ e;
   rows_are = λ t h. F.rows_are t (let m = F.many in omega arith);

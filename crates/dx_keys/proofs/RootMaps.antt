@@ -23,9 +23,9 @@ use Rattle.dx_instance.proofs.AfterFacts.{itself}
 use Rattle.dx_instance.proofs.NullFacts.{pair_of}
 use Rattle.dx_instance.proofs.ShownFacts.{number_same}
 use Rattle.dx_chase.specs.Joins.{nth}
-use Rattle.dx_keys.specs.Numbers.{AreNumberRoots, null_map_of, null_of, null_pairs_from}
+use Rattle.dx_keys.specs.Numbers.{NumberRoots, null_map_of, null_of, null_pairs_from}
 use Rattle.dx_keys.proofs.InOrder.{apart}
-use Rattle.dx_keys.proofs.Readings.{AreDistinct}
+use Rattle.dx_keys.proofs.Readings.{DistinctRanks}
 
 -- what the map lists, and then what becomes of the numbers from i on, is the whole; a null of the map has a number below i
 pub record MapTo (S : List Value) (roots : List ℕ) (i : ℕ) (m : ByNull) : Type 0 where
@@ -80,8 +80,8 @@ put_after k v (e ∷ es) h =
     ap (λ o. by_order o ((k, v) ∷ e ∷ es) ((e.0, v) ∷ es) (e ∷ put null_cmp k v es)) (h (pair_of e) (here refl))
     ∙ ap (λ z. e ∷ z) (put_after k v es (λ p m. h p (there m)))
 
-module _ (S : List Value) (roots : List ℕ) (up : ValuesAscend S) (R : AreNumberRoots S roots) where
-  distinct : AreDistinct S
+module _ (S : List Value) (roots : List ℕ) (up : ValuesAscend S) (R : NumberRoots S roots) where
+  distinct : DistinctRanks S
   distinct i j h k e = number_same S i j (apart S up) h k e
 
   pub map_set : (i : ℕ) (m new : ByNull) (null : NullId) (value : Value) → i < length S → ¬ (nth roots i ≡ i) → null ≡ null_of (cell S i) → value ≡ cell S (nth roots i)

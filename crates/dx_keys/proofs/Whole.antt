@@ -11,7 +11,7 @@ use Rattle.dx_chase.specs.Tables.{ChaseTable}
 use Rattle.dx_chase.specs.declared.rows.RowsChased.{RowsChased}
 use Rattle.dx_chase.specs.Joins.{demand_at, AreDemands, AllFit, IsClashOfDemands, IsNumberChase}
 use Rattle.dx_chase.specs.Boards.{firsts}
-use Rattle.dx_chase.specs.Rows.{TablesAreBelow, AreRowDemands, ColumnsFit, number_row}
+use Rattle.dx_chase.specs.Rows.{TablesAreBelow, DemandsOfRows, ColumnsFit, number_row}
 use Rattle.dx_chase.proofs.RowDemands.{row_demands}
 use Rattle.dx_base.proofs.Members.{from_flat_map, from_map, in_at}
 use Rattle.dx_keys.specs.Numbers.{AreValues, steps_of}
@@ -22,7 +22,7 @@ use Rattle.dx_keys.proofs.Mapped.{HasNumbers, stands_first, fact_map, nulls_at, 
 use Rattle.dx_keys.proofs.OfRows.{of_rows}
 
 module _ (schema : List Table) (S : List Value) (consts : ℕ) (A : List Fact) (tables : List ChaseTable) (c : RowsChased) (fits : IsInstance schema A)
-    (V : AreValues consts S) (F : ColumnsFit tables) (B : TablesAreBelow (length S) tables) (T : AreTablesOf schema S A tables) (R : AreRowDemands tables c.demands)
+    (V : AreValues consts S) (F : ColumnsFit tables) (B : TablesAreBelow (length S) tables) (T : AreTablesOf schema S A tables) (R : DemandsOfRows tables c.demands)
     (X : IsNumberChase (firsts (length S)) consts c.demands c.chased) where
   D : AreDemands (length S) c.demands
   D = row_demands (length S) tables c.demands B F R

@@ -57,7 +57,7 @@ abbrev pub null_map_of : List Value → List ℕ → List NullPair
 null_map_of S roots = null_pairs_from S roots 0 S
 
 -- the root of each number: what is not its own root is a null
-pub record AreNumberRoots (S : List Value) (roots : List ℕ) : Type 0 where
+pub record NumberRoots (S : List Value) (roots : List ℕ) : Type 0 where
   pub many : length roots ≡ length S
   pub within : (i : ℕ) → i < length S → nth roots i < length S
   pub nulls : (i : ℕ) → i < length S → ¬ (nth roots i ≡ i) → (n : NullId) × (cell S i ≡ Null n)
@@ -73,7 +73,7 @@ pub record IsNumbering (I : List TableRows) (n : Numbering) : Type 0 where
   pub parts : PartsFit n.symbols n.tables.items
 
 -- the rows of each table, and what determines what in it
-pub record AreTablesIn (schema : List Table) (rows : List TableOfNumbers) (tables : List ChaseTable) : Type 0 where
+pub record TablesWithin (schema : List Table) (rows : List TableOfNumbers) (tables : List ChaseTable) : Type 0 where
   pub many : length tables ≡ length rows
   pub rows_are : (t : ℕ) → t < length tables → (number_table tables t).rows ≡ (numbers_of_table rows t).rows
   pub determined : (t : ℕ) → t < length tables
@@ -86,7 +86,7 @@ row_read S tables roots d = map (cell S) (map (nth roots) (number_row tables d.t
 -- what is asked of a demand whose row is read: it is there, and the numbers of rows, and their roots, stand for values
 pub record CanReadDemand (S : List Value) (tables : List ChaseTable) (roots : List ℕ)
     (demands : List Demand) (i : ℕ) : Type 0 where
-  pub roots_are : AreNumberRoots S roots
+  pub roots_are : NumberRoots S roots
   pub below : TablesAreBelow (length S) tables
   pub demand : IsRowDemand tables (demand_at demands i)
   pub inside : i < length demands
@@ -94,7 +94,7 @@ pub record CanReadDemand (S : List Value) (tables : List ChaseTable) (roots : Li
 -- what is asked of a clash that is read: its numbers stand for values and rows
 pub record CanRead (S : List Value) (tables : List ChaseTable) (c : RowsChased) (p : ClashAt) : Type 0 where
   pub below : TablesAreBelow (length S) tables
-  pub roots_are : AreNumberRoots S c.chased.roots
+  pub roots_are : NumberRoots S c.chased.roots
   pub steps_in : Each c.chased.steps (λ s. (s.greater < length S) × (s.lesser < length S))
   pub demands_in : Each c.demands (IsRowDemand tables)
   pub one_in : p.one < length c.demands
@@ -134,4 +134,4 @@ pub record IsNumberedInstance (f : Forest) (I : List TableRows) (n : Numbering) 
   pub wide : Each I (λ (t : TableRows). Each t.rows (λ (row : List Value). length row ≡ t.width))
   pub determined : DeterminationsFit (model_tables f)
   pub numbering : IsNumbering I n
-  pub listed : AreTablesIn (model_tables f) n.tables.items rows
+  pub listed : TablesWithin (model_tables f) n.tables.items rows

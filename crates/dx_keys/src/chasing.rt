@@ -7,7 +7,7 @@ ghost use Rattle.dx_instance.specs.Numbers.{ValuesAscend};
 ghost use Rattle.dx_instance.specs.Shown.{PartsFit, renumbered, shown_tables};
 ghost use Rattle.dx_instance.specs.Stored.{IsSorting, TableRows, widths};
 ghost use Rattle.dx_keys.specs.Answers.{IsChased, IsChaseFault};
-ghost use Rattle.dx_keys.specs.Numbers.{AnswersBy, AreNumberRoots, IsNumbered, IsNumberedInstance, null_map_of};
+ghost use Rattle.dx_keys.specs.Numbers.{AnswersBy, NumberRoots, IsNumbered, IsNumberedInstance, null_map_of};
 
 use crate::answers::Chased;
 use crate::clashes::read_clash;
@@ -25,7 +25,7 @@ use std::alloc::{AllocError, Global};
 // What the roots of numbers say of an instance: what becomes of its nulls, and of it.
 fn read_chased(alloc: Global, numbering: Numbering, roots: &[u32]) -> Result<Chased, AllocError>
     requires ascend { ValuesAscend numbering.symbols }
-    requires roots { AreNumberRoots numbering.symbols roots.now }
+    requires roots { NumberRoots numbering.symbols roots.now }
     requires fit { PartsFit numbering.symbols numbering.tables.items }
     ensures map { IfOk result (λ c. pairs_of c.map ≡ null_map_of numbering.symbols roots.now) }
     ensures image { IfOk result (λ c. IsSorting (shown_tables numbering.symbols
@@ -56,7 +56,7 @@ fn chase_numbered(
     rows: &[NumberTable<'_>],
 ) -> Result<Items<u32>, ChaseFault>
     requires { (schema : Forest) × (I : List TableRows) × IsNumberedInstance schema I numbering.now rows.now }
-    ensures roots { IfOk result (AreNumberRoots numbering.now.symbols) }
+    ensures roots { IfOk result (NumberRoots numbering.now.symbols) }
     ensures ok { (schema : Forest) (I : List TableRows) → IsNumberedInstance schema I numbering.now rows.now
         → IfOk result (λ roots. AnswersBy (model_tables schema) I numbering.now roots) }
     ensures fault { (schema : Forest) (I : List TableRows) → IsNumberedInstance schema I numbering.now rows.now
@@ -76,7 +76,7 @@ fn chase_numbered(
 // What the numbers of the values of an instance become. What is demanded of the rows is needed no more after it.
 fn chase_by(alloc: Global, schema: &Schema, numbering: &Numbering) -> Result<Items<u32>, ChaseFault>
     requires { (I : List TableRows) × IsNumbered schema.now I numbering.now }
-    ensures roots { IfOk result (AreNumberRoots numbering.now.symbols) }
+    ensures roots { IfOk result (NumberRoots numbering.now.symbols) }
     ensures ok { (I : List TableRows) → IsNumbered schema.now I numbering.now
         → IfOk result (λ roots. AnswersBy (model_tables schema.now) I numbering.now roots) }
     ensures fault { (I : List TableRows) → IsNumbered schema.now I numbering.now → IfErr result (IsChaseFault (model_tables schema.now) I) }

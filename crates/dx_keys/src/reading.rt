@@ -7,7 +7,7 @@ ghost use Rattle.dx_instance.specs.Numbers.{ValuesAscend};
 ghost use Rattle.dx_instance.specs.Shown.{PartsFit, NumberRowsFit, renumbered, shown_tables};
 ghost use Rattle.dx_instance.specs.Stored.{IsSorting};
 ghost use Rattle.dx_chase.specs.Joins.{nth};
-ghost use Rattle.dx_keys.specs.Numbers.{AreNumberRoots, null_map_of, null_of, steps_of};
+ghost use Rattle.dx_keys.specs.Numbers.{NumberRoots, null_map_of, null_of, steps_of};
 
 use dx_base::Items;
 use dx_chase::Step;
@@ -37,7 +37,7 @@ fn null_at(symbols: &Symbols, number: u32) -> NullId
 /// `AllocError` if there is no memory.
 pub fn read_map(alloc: Global, symbols: &Symbols, roots: &[u32]) -> Result<NullMap, AllocError>
     requires ascend { ValuesAscend symbols.now }
-    requires roots { AreNumberRoots symbols.now roots.now }
+    requires roots { NumberRoots symbols.now roots.now }
     ensures { IfOk result (λ m. pairs_of m ≡ null_map_of symbols.now roots.now) }
 {
     let mut map = NullMap::new(alloc);
@@ -87,7 +87,7 @@ pub fn read_row(
     roots: &[u32],
     numbers: &[u32],
 ) -> Result<Row, AllocError>
-    requires roots { AreNumberRoots symbols.now roots.now }
+    requires roots { NumberRoots symbols.now roots.now }
     requires numbers { Each numbers.now (λ v. v < length symbols.now) }
     ensures { IfOk result (λ row. row ≡ map (cell symbols.now) (map (nth roots.now) numbers.now)) }
 {
@@ -122,7 +122,7 @@ pub fn read_image(
     roots: &[u32],
     tables: Vec<Rows>,
 ) -> Result<Instance, AllocError>
-    requires roots { AreNumberRoots symbols roots.now }
+    requires roots { NumberRoots symbols roots.now }
     requires fit { PartsFit symbols tables.items }
     ensures { IfOk result (IsSorting (shown_tables symbols (map (renumbered roots.now) tables.items))) }
 {

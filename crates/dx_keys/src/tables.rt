@@ -2,7 +2,7 @@
 ghost use Rattle.std.specs.Prelude.{◌≡◌, ◌<◌, IfOk, length, map};
 ghost use Rattle.dx_model.specs.Tables.{table_of};
 ghost use Rattle.dx_schema.specs.Tables.{key_determinations, model_tables, schema_table, tables_of};
-ghost use Rattle.dx_keys.specs.Numbers.{AreTablesIn, determination_of};
+ghost use Rattle.dx_keys.specs.Numbers.{TablesWithin, determination_of};
 
 use dx_base::Items;
 use dx_chase::{Columns, NumberTable, counted};
@@ -69,7 +69,7 @@ pub fn number_tables<'a>(
     tables: &'a [Rows],
 ) -> Result<Vec<NumberTable<'a>>, AllocError>
     requires { length tables.now ≡ length (tables_of schema.now) }
-    ensures { IfOk result (λ all. AreTablesIn (model_tables schema.now) tables.now all.items) }
+    ensures { IfOk result (λ all. TablesWithin (model_tables schema.now) tables.now all.items) }
 {
     let mut all = Vec::new(alloc);
     for table in 0..schema.tables() {

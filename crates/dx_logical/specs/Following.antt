@@ -1,7 +1,7 @@
 -- From where links are followed.
 use Rattle.std.specs.Prelude.{◌≡◌, ◌<◌, ℕ, List, length}
 use Rattle.dx_model.specs.declared.tables.Link.{Link}
-use Rattle.dx_model.specs.Tables.{AreWithin}
+use Rattle.dx_model.specs.Tables.{AllInside}
 use Rattle.dx_schema.specs.Forest.{Forest}
 use Rattle.dx_schema.specs.Tables.{schema_table, tables_of}
 use Rattle.dx_logical.specs.declared.occurrences.Start.{Start}
@@ -14,5 +14,5 @@ pub record IsStart (f : Forest) (s : Start) : Type 0 where
 -- a link leads from columns of an occurrence with these variables to as many of a table of the schema
 pub record LeadsOn (f : Forest) (vs : List ℕ) (l : Link) : Type 0 where
   pub table : l.table < length (tables_of f)
-  pub from : AreWithin l.from (length vs)
+  pub from : AllInside l.from (length vs)
   pub pairs : length l.to ≡ length l.from

@@ -17,7 +17,7 @@ use Rattle.dx_base.proofs.Members.{in_map, from_map, in_right, in_flat_map, from
 use Rattle.dx_base.proofs.Tests.{map_same}
 use Rattle.dx_model.specs.Values.{Tuple, Conversions, tuple_cmp}
 use Rattle.dx_base.specs.Texts.{Text}
-use Rattle.dx_model.specs.Tables.{AreWithin}
+use Rattle.dx_model.specs.Tables.{AllInside}
 use Rattle.dx_model.specs.Rules.{cell_value, premise_fact, after_cells, cells_of, Derive, IsMatch, exported, text_of}
 use Rattle.dx_model.specs.Fitting.{ByFirstAppearance, cell_variable, premise_variables, IsRule}
 use Rattle.dx_model.specs.Covers.{below}
@@ -98,7 +98,7 @@ module _ (convert : Conversions) where
   abbrev all_texts : Tuple → List Derived → ℕ → Text
   all_texts us ds = read (us ++ map (value_of us) ds)
 
-  derives_from : (us done : Tuple) (ds : List Derived) → Each ds (λ e. AreWithin e.args (length us)) → (n : ℕ) → n ≡ length (us ++ done)
+  derives_from : (us done : Tuple) (ds : List Derived) → Each ds (λ e. AllInside e.args (length us)) → (n : ℕ) → n ≡ length (us ++ done)
       → Derive convert (read (us ++ (done ++ map (value_of us) ds))) n ds
   derives_from us done [] w n e = tt
   derives_from us done (d ∷ ds) w n e =
@@ -117,11 +117,11 @@ module _ (convert : Conversions) where
           let b = length-append (us ++ done) (value_of us d ∷ []) in
           omega (arith, a, b, e)
 
-  derives : (us : Tuple) (ds : List Derived) → Each ds (λ e. AreWithin e.args (length us)) → Derive convert (all_texts us ds) (length us) ds
+  derives : (us : Tuple) (ds : List Derived) → Each ds (λ e. AllInside e.args (length us)) → Derive convert (all_texts us ds) (length us) ds
   derives us ds w = derives_from us [] ds w (length us) (ap length (sym (append-nil us)))
 
   -- a match has these texts, where they are its own on the premise variables
-  derived_same : (us : Tuple) (texts : ℕ → Text) (k : ℕ) → ((x : ℕ) → x < k → read us x ≡ texts x) → (n : ℕ) (ds : List Derived) → Each ds (λ e. AreWithin e.args k)
+  derived_same : (us : Tuple) (texts : ℕ → Text) (k : ℕ) → ((x : ℕ) → x < k → read us x ≡ texts x) → (n : ℕ) (ds : List Derived) → Each ds (λ e. AllInside e.args k)
       → Derive convert texts n ds → (i : ℕ) → i < length ds → texts (n + i) ≡ read (map (value_of us) ds) i
   derived_same us texts k s n [] w d i h = absurd (omega arith)
   derived_same us texts k s n (e ∷ ds) w d zero h =
@@ -131,7 +131,7 @@ module _ (convert : Conversions) where
       let a : texts (n + suc i) ≡ texts (suc n + i) = ap texts (omega arith) in
       a ∙ derived_same us texts k s (suc n) ds (λ f m. w f (there m)) d.1 i (omega arith)
 
-  all_same : (us : Tuple) (ds : List Derived) (texts : ℕ → Text) → ((x : ℕ) → x < length us → read us x ≡ texts x) → Each ds (λ e. AreWithin e.args (length us))
+  all_same : (us : Tuple) (ds : List Derived) (texts : ℕ → Text) → ((x : ℕ) → x < length us → read us x ≡ texts x) → Each ds (λ e. AllInside e.args (length us))
       → Derive convert texts (length us) ds → (x : ℕ) → x < length us + length ds → all_texts us ds x ≡ texts x
   all_same us ds texts s w d x h = elim (cases_order x (length us)) [
     | inr o ↦ elim o [
@@ -261,7 +261,7 @@ module _ (convert : Conversions) (d : Rule) (I : List Fact) (r : IsRule d) where
   match_by : (us : Tuple) → length us ≡ premise_variables d → Holds us → IsMatch convert d I (texts_by us)
   match_by us e h = record {
     premise = h;
-    derived = subst (λ n. Derive convert (texts_by us) n d.derived) e (derives convert us d.derived (λ f m. subst (AreWithin f.args) (sym e) (r.derived f m)));
+    derived = subst (λ n. Derive convert (texts_by us) n d.derived) e (derives convert us d.derived (λ f m. subst (AllInside f.args) (sym e) (r.derived f m)));
   }
 
   from_rows : (t : Tuple) → t ∈ some_rows → (texts : ℕ → Text) × IsMatch convert d I texts × (t ≡ map texts (exported d))
@@ -278,7 +278,7 @@ module _ (convert : Conversions) (d : Rule) (I : List Fact) (r : IsRule d) where
       let us : Tuple = front texts n in
       let l : length us ≡ n = length_front texts n in
       let known : (x : ℕ) → x < n + length d.derived → texts_by us x ≡ texts x =
-      (λ x h. all_same convert us d.derived texts (λ y k. front_gives texts n y (omega (arith, k, l))) (λ f k. subst (AreWithin f.args) (sym l) (r.derived f k))
+      (λ x h. all_same convert us d.derived texts (λ y k. front_gives texts n y (omega (arith, k, l))) (λ f k. subst (AllInside f.args) (sym l) (r.derived f k))
       (subst (λ k. Derive convert texts k d.derived) (sym l) m.derived) x (omega (arith, h, l))) in
       let holds : Holds us =
       (λ a k. subst (λ f. f ∈ I) (sym (said_same (texts_by us) texts (λ _. Const []) a (λ x v. known x (inside x (in_flat_map (λ (b : Atom). b.cells) k v))))) (m.premise a k)) in

@@ -6,7 +6,7 @@ use Rattle.dx_model.specs.declared.rules.Cell.{Cell}
 use Rattle.dx_model.specs.declared.rules.Cell.TheVariants.{Var, Ex, Lit}
 use Rattle.dx_model.specs.declared.rules.Atom.{Atom}
 use Rattle.dx_model.specs.declared.rules.Rule.{Rule}
-use Rattle.dx_model.specs.Tables.{Table, AreWithin}
+use Rattle.dx_model.specs.Tables.{Table, AllInside}
 use Rattle.dx_model.specs.Rules.{after_cells, cells_of, existentials}
 use Rattle.dx_model.specs.Solutions.{AtomFits}
 
@@ -46,7 +46,7 @@ pub record IsRule (d : Rule) : Type 0 where
   pub some_premise : 0 < length d.premise
   pub plain : Each d.premise (λ a. Each a.cells IsVariable)
   pub numbered : ByFirstAppearance 0 (flat_map cell_variable (cells_of d.premise)) (premise_variables d)
-  pub derived : Each d.derived (λ e. AreWithin e.args (premise_variables d))
+  pub derived : Each d.derived (λ e. AllInside e.args (premise_variables d))
   pub some_conclusion : 0 < length d.conclusion
   pub known : (x : ℕ) → Var x ∈ cells_of d.conclusion → x < premise_variables d + length d.derived
   pub existentials : AreNumbered d.conclusion

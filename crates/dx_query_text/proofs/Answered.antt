@@ -6,7 +6,7 @@ use Rattle.dx_tokens.specs.declared.scanner.Lexeme.{Lexeme}
 use Rattle.dx_tokens.specs.declared.faults.TextFault.{TextFault}
 use Rattle.dx_tokens.specs.declared.faults.TextFault.TheVariants.{At}
 use Rattle.dx_tokens.specs.declared.faults.TextKind.{TextKind}
-use Rattle.dx_tokens.proofs.Judged.{AreApart, fault_answered, one_fault_by, never_faulty, stop_is_fault, said_or_faulty}
+use Rattle.dx_tokens.proofs.Judged.{KeptApart, fault_answered, one_fault_by, never_faulty, stop_is_fault, said_or_faulty}
 use Rattle.dx_tokens.specs.Scan.{scan_of}
 use Rattle.dx_tokens.proofs.StopKinds.{stop_kind}
 use Rattle.dx_grammar.specs.Forms.{Derives, IsFirstUnexpected}
@@ -80,7 +80,7 @@ at_token : (text : List ℕ) (place : ℕ) → IsUnexpectedInQuery text place �
 at_token text place (inl x) = x
 at_token text place (inr x) = absurd x
 
-are_apart : (text : List ℕ) → AreApart (IsUnexpectedInQuery text) (λ place. ⊥) (QueryStops text)
+are_apart : (text : List ℕ) → KeptApart (IsUnexpectedInQuery text) (λ place. ⊥) (QueryStops text)
 are_apart text = record {
   unexpected = λ p q x y. (one_unexpected x y).1;
   deeper = λ p q x y. absurd x;

@@ -7,7 +7,7 @@ use Rattle.dx_model.specs.declared.rules.Cell.TheVariants.{Var, Ex, Lit}
 use Rattle.dx_model.specs.declared.rules.Rule.{Rule}
 use Rattle.dx_schema.specs.Forest.{Forest, none, set, bare_set}
 use Rattle.dx_funcs.specs.Shipped.{shipped_conversions}
-use Rattle.dx_rule_text.specs.Printed.{rule_text, rules_text, AreAtomsOf, AreListed}
+use Rattle.dx_rule_text.specs.Printed.{rule_text, rules_text, AtomsWithin, AllListed}
 
 -- employees and their departments
 abbrev source : Forest
@@ -95,11 +95,11 @@ no_rules = refl
 -- ---- what can be printed
 
 -- there is no table 1 of one set
-no_table_behind : ¬ AreAtomsOf persons (record { table = 1; cells = [] } ∷ [])
+no_table_behind : ¬ AtomsWithin persons (record { table = 1; cells = [] } ∷ [])
 no_table_behind h = let b : 1 < 1 = h (record { table = 1; cells = [] }) (here refl) in omega (arith, b)
 
 -- and no shipped conversion with code 3
-no_conversion_behind : ¬ AreListed shipped_conversions (record { code = 3; args = [] } ∷ [])
+no_conversion_behind : ¬ AllListed shipped_conversions (record { code = 3; args = [] } ∷ [])
 no_conversion_behind h = none_is_three (h (record { code = 3; args = [] }) (here refl)) where
   none_is_three : ¬ (◌∈◌ {X = ℕ} 3 (0 ∷ 1 ∷ 2 ∷ []))
   none_is_three (here e) = omega (arith, e)

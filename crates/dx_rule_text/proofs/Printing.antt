@@ -8,7 +8,7 @@ use Rattle.dx_model.specs.declared.rules.Atom.{Atom}
 use Rattle.dx_model.specs.Solutions.{AtomFits}
 use Rattle.dx_schema.specs.Forest.{Forest}
 use Rattle.dx_schema.specs.Tables.{as_numbers, model_tables, tables_of}
-use Rattle.dx_rule_text.specs.Printed.{derived_text, derived_texts, separated, variable_text, AreAtomsOf}
+use Rattle.dx_rule_text.specs.Printed.{derived_text, derived_texts, separated, variable_text, AtomsWithin}
 
 -- what each member has, the first has, and each other
 pub each_first : {X : Type 0} (P : X → Type 0) (xs : List X) (x : X) (others : List X) → xs ≡ x ∷ others → Each xs P → P x
@@ -56,7 +56,7 @@ printed_derived name n d shown args before with_variable with_equal with_name op
     l ∙ rw (a, o, m, e, v, is, same) (simp append_assoc)
 
 -- atoms that fit are atoms of the schema
-pub atoms_of : (f : Forest) (atoms : List Atom) → Each atoms (AtomFits (model_tables f)) → AreAtomsOf f atoms
+pub atoms_of : (f : Forest) (atoms : List Atom) → Each atoms (AtomFits (model_tables f)) → AtomsWithin f atoms
 atoms_of f atoms h a m =
     let k = (h a m).table in
     let e = length-map (tables_of f) as_numbers in

@@ -75,9 +75,9 @@ rules_text source target list rules = flat_map (λ r. rule_text source target li
 -- ---- what can be printed
 
 -- the tables of atoms are tables of a schema
-abbrev pub AreAtomsOf : Forest → List Atom → Type 0
-AreAtomsOf schema atoms = Each atoms (λ a. a.table < length (tables_of schema))
+abbrev pub AtomsWithin : Forest → List Atom → Type 0
+AtomsWithin schema atoms = Each atoms (λ a. a.table < length (tables_of schema))
 
 -- the conversions of derived variables are listed
-abbrev pub AreListed : List Conversion → List Derived → Type 0
-AreListed list derived = Each derived (λ d. d.code ∈ map (λ (c : Conversion). c.code) list)
+abbrev pub AllListed : List Conversion → List Derived → Type 0
+AllListed list derived = Each derived (λ d. d.code ∈ map (λ (c : Conversion). c.code) list)

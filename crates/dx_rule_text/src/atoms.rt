@@ -1,7 +1,7 @@
 // The text of atoms.
 ghost use Rattle.std.specs.Prelude.{◌≡◌, ◌++◌, ◌<◌, OnOk, length, string_bytes};
 ghost use Rattle.dx_schema.specs.Tables.{tables_of};
-ghost use Rattle.dx_rule_text.specs.Printed.{AreAtomsOf, atom_text, atoms_text, table_name};
+ghost use Rattle.dx_rule_text.specs.Printed.{AtomsWithin, atom_text, atoms_text, table_name};
 
 use crate::cells::push_cells;
 use dx_model::Atom;
@@ -21,7 +21,7 @@ fn push_atom(atom: &Atom, schema: &Schema, out: &mut String) -> Result<(), Alloc
 
 // Atoms, parted by a comma and a space.
 pub fn push_atoms(atoms: &[Atom], schema: &Schema, out: &mut String) -> Result<(), AllocError>
-    requires { AreAtomsOf schema.now atoms.now }
+    requires { AtomsWithin schema.now atoms.now }
     ensures { OnOk result (string_bytes out.new ≡ string_bytes out.old ++ atoms_text (table_name schema.now) atoms.now) }
 {
     let Some((atom, others)) = atoms.split_first() else {

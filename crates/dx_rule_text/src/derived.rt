@@ -4,7 +4,7 @@ ghost use Rattle.dx_base.specs.Members.{◌∈◌};
 ghost use Rattle.dx_model.specs.Rules.{after_cells, cells_of};
 ghost use Rattle.dx_funcs.specs.Names.{conversion_name};
 ghost use Rattle.dx_funcs.specs.Serving.{offered};
-ghost use Rattle.dx_rule_text.specs.Printed.{AreListed, derived_text, separated, variable_text, where_text};
+ghost use Rattle.dx_rule_text.specs.Printed.{AllListed, derived_text, separated, variable_text, where_text};
 
 use dx_base::{Items, Text};
 use dx_funcs::{Host, Meaning};
@@ -87,7 +87,7 @@ pub fn push_where<F: Fn(u32, &Items<Text>) -> Result<Text, AllocError>, M: Meani
     host: &Host<F, M>,
     out: &mut String,
 ) -> Result<(), AllocError>
-    requires listed { AreListed (offered host.now) derived.now }
+    requires listed { AllListed (offered host.now) derived.now }
     requires first { first ≤ 2 ^ 32 }
     ensures { OnOk result (string_bytes out.new
         ≡ string_bytes out.old ++ where_text (conversion_name (offered host.now)) first derived.now) }

@@ -2,7 +2,7 @@
 ghost use Rattle.std.specs.Prelude.{◌≡◌, ◌++◌, IfOk, OnOk, string_bytes};
 ghost use Rattle.dx_base.specs.Members.{Each};
 ghost use Rattle.dx_funcs.specs.Serving.{offered};
-ghost use Rattle.dx_rule_text.specs.Printed.{AreAtomsOf, AreListed, rule_text, rules_text};
+ghost use Rattle.dx_rule_text.specs.Printed.{AtomsWithin, AllListed, rule_text, rules_text};
 
 use crate::atoms::push_atoms;
 use crate::derived::{after_atoms, push_where};
@@ -19,9 +19,9 @@ fn push_rule<F: Fn(u32, &Items<Text>) -> Result<Text, AllocError>, M: Meaning>(
     host: &Host<F, M>,
     out: &mut String,
 ) -> Result<(), AllocError>
-    requires premise { AreAtomsOf source.now rule.now.premise }
-    requires conclusion { AreAtomsOf target.now rule.now.conclusion }
-    requires derived { AreListed (offered host.now) rule.now.derived }
+    requires premise { AtomsWithin source.now rule.now.premise }
+    requires conclusion { AtomsWithin target.now rule.now.conclusion }
+    requires derived { AllListed (offered host.now) rule.now.derived }
     ensures { OnOk result (string_bytes out.new ≡ string_bytes out.old ++ rule_text source.now target.now (offered host.now) rule.now) }
 {
     out.push_str("rule ")?;
@@ -47,9 +47,9 @@ pub fn print_rule<F: Fn(u32, &Items<Text>) -> Result<Text, AllocError>, M: Meani
     target: &Schema,
     host: &Host<F, M>,
 ) -> Result<Text, AllocError>
-    requires premise { AreAtomsOf source.now rule.now.premise }
-    requires conclusion { AreAtomsOf target.now rule.now.conclusion }
-    requires derived { AreListed (offered host.now) rule.now.derived }
+    requires premise { AtomsWithin source.now rule.now.premise }
+    requires conclusion { AtomsWithin target.now rule.now.conclusion }
+    requires derived { AllListed (offered host.now) rule.now.derived }
     ensures { IfOk result (λ t. t ≡ rule_text source.now target.now (offered host.now) rule.now) }
 {
     let mut out = String::new(alloc);
@@ -69,9 +69,9 @@ pub fn print_rules<F: Fn(u32, &Items<Text>) -> Result<Text, AllocError>, M: Mean
     target: &Schema,
     host: &Host<F, M>,
 ) -> Result<Text, AllocError>
-    requires premise { Each rules.now (λ r. AreAtomsOf source.now r.premise) }
-    requires conclusion { Each rules.now (λ r. AreAtomsOf target.now r.conclusion) }
-    requires derived { Each rules.now (λ r. AreListed (offered host.now) r.derived) }
+    requires premise { Each rules.now (λ r. AtomsWithin source.now r.premise) }
+    requires conclusion { Each rules.now (λ r. AtomsWithin target.now r.conclusion) }
+    requires derived { Each rules.now (λ r. AllListed (offered host.now) r.derived) }
     ensures { IfOk result (λ t. t ≡ rules_text source.now target.now (offered host.now) rules.now) }
 {
     let mut out = String::new(alloc);

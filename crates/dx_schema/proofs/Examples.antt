@@ -4,7 +4,7 @@ use Rattle.dx_schema.specs.Forest.{Forest, bare_set, none, set}
 use Rattle.dx_model.specs.declared.tables.Link.{Link}
 use Rattle.dx_model.specs.Tables.{key_of, Table as Numbers}
 use Rattle.dx_schema.specs.Tables.{AreColumns, IsDep, model_tables, no_table, tables_of}
-use Rattle.dx_schema.specs.Inner.{AreAscending}
+use Rattle.dx_schema.specs.Inner.{PlacesAscend}
 use Rattle.dx_schema.specs.Names.{HaveDistinctNames}
 use Rattle.dx_schema.specs.Links.{LinkFits, LinksFit}
 use Rattle.dx_schema.specs.Bounds.{RulesBelow}
@@ -213,7 +213,7 @@ nothing_decides : ¬ (IsDep 2 (record { columns = []; decides = 0 ∷ [] }))
 nothing_decides dep = absurd (omega (arith, dep.columns.some))
 
 -- each inner table once
-not_ascending : ¬ (AreAscending (1 ∷ 1 ∷ []))
+not_ascending : ¬ (PlacesAscend (1 ∷ 1 ∷ []))
 not_ascending ascending = absurd (omega (arith, ascending.0 1 (here refl)))
 
 -- tables have names of their own, and so have the columns of one table

@@ -22,7 +22,7 @@ use Rattle.dx_base.specs.Texts.{Text}
 use Rattle.dx_base.specs.Firsts.{first_of}
 use Rattle.dx_schema.specs.Faults.{depth, sets_fault, declarations_fault, form_fault}
 use Rattle.dx_schema.specs.Links.{IsAcyclic, IsFirstCycle, IsFaultless, IsFirstSchemaFault}
-use Rattle.dx_schema.specs.Nodes.{node_view, AreNodesOf}
+use Rattle.dx_schema.specs.Nodes.{node_view, ListsNodes}
 use Rattle.dx_schema.specs.Making.{IsOverview, IsOwnList, IsReadyForTables}
 use Rattle.dx_schema.proofs.Preorder.{length_placed, numbers_bound}
 use Rattle.dx_schema.proofs.Loops.{one_left, shown_in, shown_is, taken}
@@ -31,45 +31,45 @@ use Rattle.dx_schema.proofs.Valid.{are_tables, columns_are}
 pub too_many_fault : (f : Forest) → 64 < count f → form_fault f ≡ Some (TooMany (record { what = Tables; number = 64 }))
 too_many_fault f h = rw (lt-ltb 64 (count f) h) refl
 
-pub flattened : (f : Forest) (before after : List Node) → before ≡ [] → map node_view after ≡ sets_of f → length after ≤ 64 → AreNodesOf f after
+pub flattened : (f : Forest) (before after : List Node) → before ≡ [] → map node_view after ≡ sets_of f → length after ≤ 64 → ListsNodes f after
 flattened f before after e sets few = record { sets = sets; few = few }
 
 -- no more sets than nodes
-pub few_sets : (f : Forest) (nodes : List Node) → AreNodesOf f nodes → count f ≤ 64
+pub few_sets : (f : Forest) (nodes : List Node) → ListsNodes f nodes → count f ≤ 64
 few_sets f nodes h = omega (arith, h.few, length-map nodes node_view, ap length h.sets, length_placed None 0 f)
 
-pub few_names : (f : Forest) (nodes : List Node) (names : List Text) → AreNodesOf f nodes → names ≡ names_of (sets_of f) → length names ≤ 64
+pub few_names : (f : Forest) (nodes : List Node) (names : List Text) → ListsNodes f nodes → names ≡ names_of (sets_of f) → length names ≤ 64
 few_names f nodes names h e = omega (arith, few_sets f nodes h, ap length e, length-map (sets_of f) (λ (s : NumberedSet). s.label.name), length_placed None 0 f)
 
-pub names_seen : (f : Forest) (nodes : List Node) (names : List Text) → AreNodesOf f nodes → names ≡ names_of (sets_of f) → names ≡ names_of (map node_view nodes)
+pub names_seen : (f : Forest) (nodes : List Node) (names : List Text) → ListsNodes f nodes → names ≡ names_of (sets_of f) → names ≡ names_of (map node_view nodes)
 names_seen f nodes names h e = e ∙ ap names_of (sym h.sets)
 
-pub form_at_depth : (f : Forest) (nodes : List Node) → AreNodesOf f nodes → 16 < depth f → form_fault f ≡ Some (TooMany (record { what = Depth; number = 16 }))
+pub form_at_depth : (f : Forest) (nodes : List Node) → ListsNodes f nodes → 16 < depth f → form_fault f ≡ Some (TooMany (record { what = Depth; number = 16 }))
 form_at_depth f nodes h deep = rw (le-ltb 64 (count f) (few_sets f nodes h), lt-ltb 16 (depth f) deep) refl
 
 shallow : (f : Forest) (b : Bool) → b ≡ false → (16 < depth f → IsTrue b) → nat_lt 16 (depth f) ≡ false
 shallow f b off g = elim (cases_lt 16 (depth f)) [ inl l ↦ absurd (false≢true (sym off ∙ g l)) | inr ge ↦ le-ltb 16 (depth f) ge ]
 
-pub form_at_sets : (f : Forest) (nodes : List Node) (b : Bool) (e : SchemaFault) → AreNodesOf f nodes → b ≡ false → (16 < depth f → IsTrue b) → Some e ≡ sets_fault [] (map node_view nodes) → Some e ≡ form_fault f
+pub form_at_sets : (f : Forest) (nodes : List Node) (b : Bool) (e : SchemaFault) → ListsNodes f nodes → b ≡ false → (16 < depth f → IsTrue b) → Some e ≡ sets_fault [] (map node_view nodes) → Some e ≡ form_fault f
 form_at_sets f nodes b e h off g at =
     let s : sets_fault [] (sets_of f) ≡ Some e = ap (sets_fault []) (sym h.sets) ∙ sym at in
     rw (le-ltb 64 (count f) (few_sets f nodes h), shallow f b off g, s) refl
 
-pub form_at_rules : (f : Forest) (nodes : List Node) (b : Bool) → AreNodesOf f nodes → b ≡ false → (16 < depth f → IsTrue b) → None ≡ sets_fault [] (map node_view nodes)
+pub form_at_rules : (f : Forest) (nodes : List Node) (b : Bool) → ListsNodes f nodes → b ≡ false → (16 < depth f → IsTrue b) → None ≡ sets_fault [] (map node_view nodes)
     → first_of (map (declarations_fault (map node_view nodes)) (map node_view nodes)) ≡ form_fault f
 form_at_rules f nodes b h off g at =
     let s : sets_fault [] (sets_of f) ≡ None = ap (sets_fault []) (sym h.sets) ∙ sym at in
     rw (le-ltb 64 (count f) (few_sets f nodes h), shallow f b off g, s, h.sets) (sym (one_left (first_of (map (declarations_fault (sets_of f)) (sets_of f)))))
 
 -- no table is too wide
-pub narrow : (f : Forest) (nodes : List Node) → AreNodesOf f nodes → form_fault f ≡ None → Each (map columns_of (map node_view nodes)) (λ (c : List Text). length c ≤ 64)
+pub narrow : (f : Forest) (nodes : List Node) → ListsNodes f nodes → form_fault f ≡ None → Each (map columns_of (map node_view nodes)) (λ (c : List Text). length c ≤ 64)
 narrow f nodes h none_so c m =
     let inside : c ∈ map (λ (t : TableOf). t.columns) (tables_of f) = rw (columns_are (sets_of f) (sets_of f), ← h.sets) m in
     let r = from_map (λ (t : TableOf). t.columns) (tables_of f) {y = c} inside in
     let w = ((are_tables f none_so).each_table r.0 r.1).few_columns in
     rw (← r.2) w
 
-pub tables_are : (f : Forest) (nodes : List Node) (tables : List TableOf) → AreNodesOf f nodes → tables ≡ map (table_in (map node_view nodes)) (map node_view nodes) → tables ≡ tables_of f
+pub tables_are : (f : Forest) (nodes : List Node) (tables : List TableOf) → ListsNodes f nodes → tables ≡ map (table_in (map node_view nodes)) (map node_view nodes) → tables ≡ tables_of f
 tables_are f nodes tables h e = e ∙ ap (λ sets. map (table_in sets) sets) h.sets
 
 pub fine : (f : Forest) (tables : List TableOf) → tables ≡ tables_of f → form_fault f ≡ None → AreTables tables
@@ -115,11 +115,11 @@ table_more all nodes i node before after table lt is e pushed made =
     rw (pushed, e, made, taken nodes i node lt is, map-append node_view (take i nodes) (node ∷ []), map-append (table_in all) (map node_view (take i nodes)) (node_view node ∷ [])) refl
 
 -- a set's number and its inner sets are among 64
-pub bounded : (f : Forest) (nodes : List Node) → AreNodesOf f nodes → Each (map node_view nodes) (λ (s : NumberedSet). s.number + count s.inner < 64)
+pub bounded : (f : Forest) (nodes : List Node) → ListsNodes f nodes → Each (map node_view nodes) (λ (s : NumberedSet). s.number + count s.inner < 64)
 bounded f nodes h s m = let b = numbers_bound None 0 f s (rw (← h.sets) m) in omega (arith, b, few_sets f nodes h)
 
 -- the tables of the sets of a forest without a fault of form can be made
-pub ready : (f : Forest) (nodes : List Node) (names : List Text) → AreNodesOf f nodes → names ≡ names_of (sets_of f) → form_fault f ≡ None → IsReadyForTables nodes names
+pub ready : (f : Forest) (nodes : List Node) (names : List Text) → ListsNodes f nodes → names ≡ names_of (sets_of f) → form_fault f ≡ None → IsReadyForTables nodes names
 ready f nodes names h e none_so = record { named = names_seen f nodes names h e; few = few_names f nodes names h e; narrow = narrow f nodes h none_so; bounded = bounded f nodes h }
 
 pub overview : (nodes : List Node) (names : List Text) (columns : List (List Text)) → IsReadyForTables nodes names → columns ≡ map columns_of (map node_view nodes) → IsOverview nodes names columns

@@ -10,7 +10,7 @@ use Rattle.dx_base.proofs.Members.{from_map, in_map, in_left, in_right, from_app
 use Rattle.dx_model.specs.declared.tables.Key.{Key}
 use Rattle.dx_model.specs.declared.tables.Dep.{Dep}
 use Rattle.dx_model.specs.declared.tables.Link.{Link}
-use Rattle.dx_model.specs.Tables.{AreWithin}
+use Rattle.dx_model.specs.Tables.{AllInside}
 use Rattle.dx_schema.specs.declared.fault.SchemaFault.{SchemaFault}
 use Rattle.dx_schema.specs.declared.fault.SchemaFault.TheVariants.{Bad}
 use Rattle.dx_schema.specs.declared.fault.SchemaKind.TheVariants.{DoubleName, UnknownName, BadLink}
@@ -154,10 +154,10 @@ distinct_map f (x ∷ xs) one d = (new, distinct_map f xs (λ y z m n. one y z (
     new m = let r = from_map f xs m in d.0 (rw (one x r.0 (here refl) (there r.1) (sym r.2)) r.1)
 
 -- the numbers of distinct names of columns
-numbers_fit : (columns names : List Text) → names ⊆ columns → Distinct names → AreWithin (numbers_of_names names columns) (length columns) × Distinct (numbers_of_names names columns)
+numbers_fit : (columns names : List Text) → names ⊆ columns → Distinct names → AllInside (numbers_of_names names columns) (length columns) × Distinct (numbers_of_names names columns)
 numbers_fit columns names s d = (within, distinct_map (λ x. number_of_name x columns) names one d)
   where
-    within : AreWithin (numbers_of_names names columns) (length columns)
+    within : AllInside (numbers_of_names names columns) (length columns)
     within c m =
         let r = from_map (λ x. number_of_name x columns) names {y = c} m in
         rw (← r.2) (among_number r.0 columns (in_among r.0 columns (s r.0 r.1)))

@@ -9,7 +9,7 @@ use Rattle.dx_base.specs.Texts.{Text}
 use Rattle.dx_model.specs.declared.tables.Key.{Key}
 use Rattle.dx_model.specs.declared.tables.Dep.{Dep}
 use Rattle.dx_model.specs.declared.tables.Link.{Link}
-use Rattle.dx_model.specs.Tables.{AreWithin, Determination, key_of, Table as Numbers}
+use Rattle.dx_model.specs.Tables.{AllInside, Determination, key_of, Table as Numbers}
 use Rattle.dx_schema.specs.declared.sets.KeyDecl.{KeyDecl}
 use Rattle.dx_schema.specs.declared.sets.DepDecl.{DepDecl}
 use Rattle.dx_schema.specs.declared.sets.RefDecl.{RefDecl}
@@ -219,7 +219,7 @@ model_tables f = map as_numbers (tables_of f)
 -- at least one column, each of those of a table with this width, and none twice
 pub record AreColumns (width : ℕ) (columns : List ℕ) : Type 0 where
   pub some : 1 ≤ length columns
-  pub within : AreWithin columns width
+  pub within : AllInside columns width
   pub distinct : Distinct columns
 
 -- a dependency has columns of its table on both sides
@@ -232,8 +232,8 @@ pub record IsLink (tables : List TableOf) (width : ℕ) (link : Link) : Type 0 w
   pub table : link.table < length tables
   pub some : 1 ≤ length link.from
   pub same_length : length link.from ≡ length link.to
-  pub from : AreWithin link.from width
-  pub to : AreWithin link.to (length (slice_index_or (map (λ (t : TableOf). t.columns) tables) link.table []))
+  pub from : AllInside link.from width
+  pub to : AllInside link.to (length (slice_index_or (map (λ (t : TableOf). t.columns) tables) link.table []))
   pub from_distinct : Distinct link.from
   pub to_distinct : Distinct link.to
 

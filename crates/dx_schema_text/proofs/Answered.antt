@@ -11,7 +11,7 @@ use Rattle.dx_tokens.specs.declared.faults.TextFault.TheVariants.{At}
 use Rattle.dx_tokens.specs.declared.faults.TextKind.{TextKind}
 use Rattle.dx_tokens.specs.declared.faults.TextKind.TheVariants.{Character, Ended}
 use Rattle.dx_tokens.specs.Judged.{Reads}
-use Rattle.dx_tokens.proofs.Judged.{AreApart, one_fault_by, never_faulty, stop_is_fault, said_or_faulty, fault_answered, reads_ok, reads_err}
+use Rattle.dx_tokens.proofs.Judged.{KeptApart, one_fault_by, never_faulty, stop_is_fault, said_or_faulty, fault_answered, reads_ok, reads_err}
 use Rattle.dx_tokens.specs.Scan.{scan_of}
 use Rattle.dx_tokens.proofs.StopKinds.{stop_kind}
 use Rattle.dx_grammar.specs.Forms.{Derives, Starts, IsFirstUnexpected}
@@ -117,7 +117,7 @@ at_token : (text : List ℕ) (place : ℕ) → StandsNowhere text place ⊎ Stan
 at_token text place (inl x) = x.0
 at_token text place (inr x) = x.0
 
-are_apart : (text : List ℕ) → AreApart (StandsNowhere text) (StandsTooDeep text) (MappingStops text)
+are_apart : (text : List ℕ) → KeptApart (StandsNowhere text) (StandsTooDeep text) (MappingStops text)
 are_apart text = record {
   unexpected = λ p q x y. (one_unexpected x.0 y.0).1;
   deeper = λ p q x y. (one_unexpected x.0 y.0).1;

@@ -5,7 +5,7 @@ use Rattle.std.proofs.lemmas.Bool.{or_parts, or_cases, or_left, or_right}
 use Rattle.dx_tokens.specs.declared.scanner.Lexeme.{Lexeme}
 use Rattle.dx_grammar.specs.Forms.{Form, nothing, one, ◌▸◌, ◌∣◌, repeated, optional}
 use Rattle.dx_grammar.specs.Readers.{Reader, give, token, either, many}
-use Rattle.dx_grammar.proofs.Verdicts.{IsReader, Anything, Stops, Begins, AreApart}
+use Rattle.dx_grammar.proofs.Verdicts.{IsReader, Anything, Stops, Begins, KeptApart}
 use Rattle.dx_grammar.proofs.Combined.{one_reads, nothing_reads, then_reads, then_any, last_reads, weaker, either_reads, many_reads, begins_one, begins_both, begins_choice, begins_wider, stops_at, stops_past, consumes, apart_or, or_apart}
 use Rattle.dx_grammar.proofs.Loops.{Consumes}
 use Rattle.dx_schema.specs.Forest.{Tree}
@@ -22,7 +22,7 @@ pub a : (p : Lexeme → Bool) → IsReader Anything (one p) (token p)
 a p = one_reads Anything p
 
 -- a mark that is no comma ends what commas part
-pub comma_stops : (m : List ℕ) (b : Form Lexeme) (more : List (Form Lexeme)) → AreApart comma (mark_is m) → Begins (mark_is m) b → Stops comma (b ∷ more)
+pub comma_stops : (m : List ℕ) (b : Form Lexeme) (more : List (Form Lexeme)) → KeptApart comma (mark_is m) → Begins (mark_is m) b → Stops comma (b ∷ more)
 comma_stops m b more apart begins = stops_at comma (mark_is m) b more begins apart
 
 pub begins_with : (p : Lexeme → Bool) (b : Form Lexeme) → Begins p (one p ▸ b)
@@ -116,11 +116,11 @@ determination_reads true =
     (λ more ok. stops_at (word_is (codes "key")) (word_is (codes "dep")) dep more dep_begins (apart_words (codes "key") (codes "dep") refl))
 
 -- a token that begins neither a key nor a dependency
-determination_apart : (deps : Bool) (q : Lexeme → Bool) → AreApart (word_is (codes "key")) q → AreApart (word_is (codes "dep")) q → AreApart (begins_determination deps) q
+determination_apart : (deps : Bool) (q : Lexeme → Bool) → KeptApart (word_is (codes "key")) q → KeptApart (word_is (codes "dep")) q → KeptApart (begins_determination deps) q
 determination_apart false q k d = k
 determination_apart true q k d = or_apart (word_is (codes "key")) (word_is (codes "dep")) q k d
 
-pub apart_determination : (deps : Bool) (q : Lexeme → Bool) → AreApart q (word_is (codes "key")) → AreApart q (word_is (codes "dep")) → AreApart q (begins_determination deps)
+pub apart_determination : (deps : Bool) (q : Lexeme → Bool) → KeptApart q (word_is (codes "key")) → KeptApart q (word_is (codes "dep")) → KeptApart q (begins_determination deps)
 apart_determination false q k d = k
 apart_determination true q k d = apart_or q (word_is (codes "key")) (word_is (codes "dep")) k d
 
@@ -156,7 +156,7 @@ last_clause_reads version =
 abbrev ref_or_set : Lexeme → Bool
 ref_or_set x = word_is (codes "ref") x || word_is (codes "set") x
 
-determination_ref_set : (deps : Bool) → AreApart (begins_determination deps) ref_or_set
+determination_ref_set : (deps : Bool) → KeptApart (begins_determination deps) ref_or_set
 determination_ref_set deps =
     determination_apart deps ref_or_set
     (apart_or (word_is (codes "key")) (word_is (codes "ref")) (word_is (codes "set")) (apart_words (codes "key") (codes "ref") refl) (apart_words (codes "key") (codes "set") refl))
@@ -187,7 +187,7 @@ set_head_reads =
     last_reads Anything (mark (codes ";")) (token (mark_is (codes ";"))) _ (a (mark_is (codes ";"))))
     (λ more ok. comma_stops (codes ";") _ more (apart_marks (codes ",") (codes ";") refl) (begins_one (mark_is (codes ";")))))))
 
-pub set_of_reads : (begins : Lexeme → Bool) (inner : Form Lexeme) (r : Reader Lexeme Clause) → IsReader Anything inner r → Begins begins inner → AreApart begins (mark_is (codes "}")) → IsReader Anything (set_of inner) (set_reader_of begins r)
+pub set_of_reads : (begins : Lexeme → Bool) (inner : Form Lexeme) (r : Reader Lexeme Clause) → IsReader Anything inner r → Begins begins inner → KeptApart begins (mark_is (codes "}")) → IsReader Anything (set_of inner) (set_reader_of begins r)
 unfolding set_of set_reader_of
 set_of_reads begins inner r reads first apart =
     then_any Anything set_head _ set_head_reader _ set_head_reads (λ head.
@@ -225,10 +225,10 @@ clause_begins version (suc levels) = clause_with_begins version levels (set_of (
 abbrev closing_brace : Lexeme → Bool
 closing_brace = mark_is (codes "}")
 
-determination_closing : (deps : Bool) → AreApart (begins_determination deps) closing_brace
+determination_closing : (deps : Bool) → KeptApart (begins_determination deps) closing_brace
 determination_closing deps = determination_apart deps closing_brace (apart_word_mark (codes "key") (codes "}")) (apart_word_mark (codes "dep") (codes "}"))
 
-clause_apart : (version levels : ℕ) → AreApart (begins_clause version levels) closing_brace
+clause_apart : (version levels : ℕ) → KeptApart (begins_clause version levels) closing_brace
 clause_apart version zero = or_apart (begins_determination (since_three version)) (word_is (codes "ref")) closing_brace (determination_closing (since_three version)) (apart_word_mark (codes "ref") (codes "}"))
 clause_apart version (suc levels) =
     or_apart (begins_determination (since_three version)) ref_or_set closing_brace (determination_closing (since_three version))

@@ -19,11 +19,11 @@ use Rattle.dx_schema_text.specs.Reading.{key_clause, dep_clause, ref_clause, set
 use Rattle.dx_schema_text.specs.Grammar.{word_is, since_two, since_three}
 use Rattle.dx_schema_text.specs.Spelling.{IsMarkToken, IsWordToken, Comma, comma_then, SpellsCommaList, parted, SpellsName, name_of, SpellsKey, key_of, SpellsDep, dep_of, SpellsOptional, not_optional, is_optional, SpellsRef, ref_of, SpellsHead, head_of, SpellsSet, set_of, SpellsClauses, no_clause, clause_first, a_key, a_dep, a_ref, a_set, SpellsSide, side_of, IsVersion, version_one, version_two, version_three, SpellsMapping, mapping_of}
 use Rattle.dx_schema_text.specs.Texts.{deepest, IsMappingText}
-use Rattle.dx_schema_text.specs.Print.{names_text, optional_text, wider, key_line, dep_line, ref_line, head_lines, front_lines, last_line, printed, AreNames, IsNamedDep, IsNamedRef, HasWordNames, HaveWordNames, IsOfVersion, AreOfVersion, AreWritable, IsKnownVersion, the_first, the_second, the_third, digit_of, sides_text, sides, IsReadAgain}
+use Rattle.dx_schema_text.specs.Print.{names_text, optional_text, wider, key_line, dep_line, ref_line, head_lines, front_lines, last_line, printed, AreNames, IsNamedDep, IsNamedRef, HasWordNames, HaveWordNames, IsOfVersion, FitsVersion, AreWritable, IsKnownVersion, the_first, the_second, the_third, digit_of, sides_text, sides, IsReadAgain}
 use Rattle.dx_schema_text.proofs.PrintScans.{Reads, EndsWord, lexeme, no_token, token_then, word_then, mark_then, blanks_then, both_then, told_as, each_passes, a_word, each_append, reads_all}
 
-abbrev AreBlank : List ℕ → Type 0
-AreBlank bs = Each bs (λ b. IsTrue (is_blank b))
+abbrev AllBlanked : List ℕ → Type 0
+AllBlanked bs = Each bs (λ b. IsTrue (is_blank b))
 
 -- ---- names
 
@@ -62,7 +62,7 @@ names_read (name ∷ names) place more h ends =
 key_flat : (margin : List ℕ) (k : KeyDecl) (tail : List ℕ) → key_line margin k ++ tail ≡ margin ++ (codes "key (" ++ (names_text k.columns ++ (codes ");\n" ++ tail)))
 key_flat margin k tail = simp append_assoc
 
-key_read : (margin : List ℕ) (k : KeyDecl) (place : ℕ) (tail : List ℕ) → AreBlank margin → AreNames k.columns → Reads (SpellsKey k) place (key_line margin k ++ tail) tail
+key_read : (margin : List ℕ) (k : KeyDecl) (place : ℕ) (tail : List ℕ) → AllBlanked margin → AreNames k.columns → Reads (SpellsKey k) place (key_line margin k ++ tail) tail
 key_read margin k place tail blank named =
     subst (λ (text : List ℕ). Reads (SpellsKey k) place text tail) (sym (key_flat margin k tail))
     (blanks_then _ margin _ tail place blank
@@ -78,7 +78,7 @@ key_read margin k place tail blank named =
 dep_flat : (margin : List ℕ) (d : DepDecl) (tail : List ℕ) → dep_line margin d ++ tail ≡ margin ++ (codes "dep (" ++ (names_text d.columns ++ (codes ") -> (" ++ (names_text d.decides ++ (codes ");\n" ++ tail)))))
 dep_flat margin d tail = simp append_assoc
 
-dep_read : (margin : List ℕ) (d : DepDecl) (place : ℕ) (tail : List ℕ) → AreBlank margin → IsNamedDep d → Reads (SpellsDep d) place (dep_line margin d ++ tail) tail
+dep_read : (margin : List ℕ) (d : DepDecl) (place : ℕ) (tail : List ℕ) → AllBlanked margin → IsNamedDep d → Reads (SpellsDep d) place (dep_line margin d ++ tail) tail
 dep_read margin d place tail blank named =
     subst (λ (text : List ℕ). Reads (SpellsDep d) place text tail) (sym (dep_flat margin d tail))
     (blanks_then _ margin _ tail place blank
@@ -119,7 +119,7 @@ ref_flat : (margin : List ℕ) (r : RefDecl) (tail : List ℕ)
     → ref_line margin r ++ tail ≡ margin ++ (codes "ref (" ++ (names_text r.columns ++ (codes ") -> " ++ (r.set ++ (codes " (" ++ (names_text r.referred ++ (codes ")" ++ (optional_text r.optional ++ (codes ";\n" ++ tail)))))))))
 ref_flat margin r tail = simp append_assoc
 
-ref_read : (margin : List ℕ) (r : RefDecl) (optionals : Bool) (place : ℕ) (tail : List ℕ) → AreBlank margin → IsNamedRef r → (r.optional ≡ true → optionals ≡ true) → Reads (SpellsRef optionals r) place (ref_line margin r ++ tail) tail
+ref_read : (margin : List ℕ) (r : RefDecl) (optionals : Bool) (place : ℕ) (tail : List ℕ) → AllBlanked margin → IsNamedRef r → (r.optional ≡ true → optionals ≡ true) → Reads (SpellsRef optionals r) place (ref_line margin r ++ tail) tail
 ref_read margin r optionals place tail blank named sayable =
     let end = optional_text r.optional ++ (codes ";\n" ++ tail) in
     subst (λ (text : List ℕ). Reads (SpellsRef optionals r) place text tail) (sym (ref_flat margin r tail))
@@ -140,7 +140,7 @@ ref_read margin r optionals place tail blank named sayable =
     (optional_end r.optional optionals _ tail sayable _ (λ w e is ew. ref_of _ _ _ _ _ _ _ _ refl refl h refl refl refl refl g refl is ew))))))))))))))))
 
 -- keys before other clauses, dependencies, and refs
-keys_read : (version levels : ℕ) (margin : List ℕ) (ks : List KeyDecl) (cs : List Clause) (tail more : List ℕ) → AreBlank margin → Each ks (λ k. AreNames k.columns) → ((p : ℕ) → Reads (SpellsClauses version levels cs) p tail more)
+keys_read : (version levels : ℕ) (margin : List ℕ) (ks : List KeyDecl) (cs : List Clause) (tail more : List ℕ) → AllBlanked margin → Each ks (λ k. AreNames k.columns) → ((p : ℕ) → Reads (SpellsClauses version levels cs) p tail more)
     → (place : ℕ) → Reads (SpellsClauses version levels (map key_clause ks ++ cs)) place (flat_map (key_line margin) ks ++ tail) more
 keys_read version levels margin [] cs tail more blank each on place = on place
 keys_read version levels margin (k ∷ ks) cs tail more blank each on place =
@@ -148,7 +148,7 @@ keys_read version levels margin (k ∷ ks) cs tail more blank each on place =
     (both_then (SpellsKey k) _ _ _ more place (key_read margin k place _ blank (each k (here refl))) (λ u after h.
     told_as (SpellsClauses version levels (map key_clause ks ++ cs)) _ _ more after (keys_read version levels margin ks cs tail more blank (λ x m. each x (there m)) on after) (λ v c. clause_first (a_key h) c)))
 
-deps_read : (version levels : ℕ) (margin : List ℕ) (ds : List DepDecl) (cs : List Clause) (tail more : List ℕ) → AreBlank margin → Each ds IsNamedDep → Each ds (λ d. since_three version ≡ true) → ((p : ℕ) → Reads (SpellsClauses version levels cs) p tail more)
+deps_read : (version levels : ℕ) (margin : List ℕ) (ds : List DepDecl) (cs : List Clause) (tail more : List ℕ) → AllBlanked margin → Each ds IsNamedDep → Each ds (λ d. since_three version ≡ true) → ((p : ℕ) → Reads (SpellsClauses version levels cs) p tail more)
     → (place : ℕ) → Reads (SpellsClauses version levels (map dep_clause ds ++ cs)) place (flat_map (dep_line margin) ds ++ tail) more
 deps_read version levels margin [] cs tail more blank each sayable on place = on place
 deps_read version levels margin (d ∷ ds) cs tail more blank each sayable on place =
@@ -156,7 +156,7 @@ deps_read version levels margin (d ∷ ds) cs tail more blank each sayable on pl
     (both_then (SpellsDep d) _ _ _ more place (dep_read margin d place _ blank (each d (here refl))) (λ u after h.
     told_as (SpellsClauses version levels (map dep_clause ds ++ cs)) _ _ more after (deps_read version levels margin ds cs tail more blank (λ x m. each x (there m)) (λ x m. sayable x (there m)) on after) (λ v c. clause_first (a_dep (sayable d (here refl)) h) c)))
 
-refs_read : (version levels : ℕ) (margin : List ℕ) (rs : List RefDecl) (cs : List Clause) (tail more : List ℕ) → AreBlank margin → Each rs IsNamedRef → Each rs (λ r. r.optional ≡ true → since_two version ≡ true)
+refs_read : (version levels : ℕ) (margin : List ℕ) (rs : List RefDecl) (cs : List Clause) (tail more : List ℕ) → AllBlanked margin → Each rs IsNamedRef → Each rs (λ r. r.optional ≡ true → since_two version ≡ true)
     → ((p : ℕ) → Reads (SpellsClauses version levels cs) p tail more)
     → (place : ℕ) → Reads (SpellsClauses version levels (map ref_clause rs ++ cs)) place (flat_map (ref_line margin) rs ++ tail) more
 refs_read version levels margin [] cs tail more blank each sayable on place = on place
@@ -275,10 +275,10 @@ head_flat : (margin : List ℕ) (l : Label) (tail : List ℕ)
     → head_lines margin l ++ tail ≡ margin ++ (codes "set " ++ (l.name ++ (codes " {\n" ++ (wider margin ++ (names_text l.columns ++ (codes ";\n" ++ tail))))))
 head_flat margin l tail = simp append_assoc
 
-wider_blank : (margin : List ℕ) → AreBlank margin → AreBlank (wider margin)
+wider_blank : (margin : List ℕ) → AllBlanked margin → AllBlanked (wider margin)
 wider_blank margin blank = each_append is_blank margin (codes "  ") blank (each_passes is_blank (codes "  ") refl)
 
-head_read : (margin : List ℕ) (l : Label) (place : ℕ) (tail : List ℕ) → AreBlank margin → HasWordNames l → Reads (SpellsHead l.name l.columns) place (head_lines margin l ++ tail) tail
+head_read : (margin : List ℕ) (l : Label) (place : ℕ) (tail : List ℕ) → AllBlanked margin → HasWordNames l → Reads (SpellsHead l.name l.columns) place (head_lines margin l ++ tail) tail
 head_read margin l place tail blank named =
     subst (λ (text : List ℕ). Reads (SpellsHead l.name l.columns) place text tail) (sym (head_flat margin l tail))
     (blanks_then _ margin _ tail place blank
@@ -311,7 +311,7 @@ set_closed : (version levels : ℕ) (l : Label) (inner : Forest) (u v : List Lex
     → SpellsSet version levels (record { label = l; inner = inner }) (u ++ (v ++ c ∷ []))
 set_closed version levels l inner u v c head clauses closing = subst (λ (t : Tree). SpellsSet version levels t (u ++ (v ++ c ∷ []))) (tree_is l inner) (set_of c head clauses closing)
 
-set_read : (version levels : ℕ) (margin : List ℕ) (l : Label) (inner : Forest) (place : ℕ) (more : List ℕ) → AreBlank margin → HasWordNames l → IsOfVersion version l → InnerRead version levels (wider margin) inner
+set_read : (version levels : ℕ) (margin : List ℕ) (l : Label) (inner : Forest) (place : ℕ) (more : List ℕ) → AllBlanked margin → HasWordNames l → IsOfVersion version l → InnerRead version levels (wider margin) inner
     → Reads (SpellsSet version levels (record { label = l; inner = inner })) place (front_lines margin l ++ (printed (wider margin) inner ++ (last_line margin ++ more))) more
 set_read version levels margin l inner place more blank named first on =
     subst (λ (text : List ℕ). Reads (SpellsSet version levels (record { label = l; inner = inner })) place text more) (sym (front_flat margin l (printed (wider margin) inner ++ (last_line margin ++ more))))
@@ -332,7 +332,7 @@ level_flat margin l inner rest tail =
     append_assoc (front_lines margin l) _ tail ∙ ap (λ (xs : List ℕ). front_lines margin l ++ xs) (append_assoc (printed (wider margin) inner) _ tail
     ∙ ap (λ (xs : List ℕ). printed (wider margin) inner ++ xs) (append_assoc (last_line margin) (printed margin rest) tail))
 
-inner_read : (version : ℕ) (f : Forest) (levels : ℕ) (margin : List ℕ) → AreBlank margin → HaveWordNames f → AreOfVersion version f → depth f ≤ levels → InnerRead version levels margin f
+inner_read : (version : ℕ) (f : Forest) (levels : ℕ) (margin : List ℕ) → AllBlanked margin → HaveWordNames f → FitsVersion version f → depth f ≤ levels → InnerRead version levels margin f
 inner_read version none levels margin blank named first deep place tail = no_token _ place tail no_clause
 inner_read version (set l i r) zero margin blank named first deep place tail = absurd (omega arith)
 inner_read version (set l i r) (suc n) margin blank named first deep place tail =
@@ -351,7 +351,7 @@ forest_is : (f : Forest) → forest_of (trees_of f) ≡ f
 forest_is none = refl
 forest_is (set l i r) = ap (λ f. set l i f) (forest_is r)
 
-sets_read : (version : ℕ) (f : Forest) (levels : ℕ) (margin : List ℕ) → AreBlank margin → HaveWordNames f → AreOfVersion version f → depth f ≤ suc levels → (place : ℕ) (tail : List ℕ) → Reads (Many (SpellsSet version levels) (trees_of f)) place (printed margin f ++ tail) tail
+sets_read : (version : ℕ) (f : Forest) (levels : ℕ) (margin : List ℕ) → AllBlanked margin → HaveWordNames f → FitsVersion version f → depth f ≤ suc levels → (place : ℕ) (tail : List ℕ) → Reads (Many (SpellsSet version levels) (trees_of f)) place (printed margin f ++ tail) tail
 sets_read version none levels margin blank named first deep place tail = no_token _ place tail no_more
 sets_read version (set l i r) n margin blank named first deep place tail =
     subst (λ (text : List ℕ). Reads (Many (SpellsSet version n) (trees_of (set l i r))) place text tail) (sym (level_flat margin l i r tail))

@@ -13,7 +13,7 @@ use Rattle.dx_schema_text.specs.Grammar.{since_two, since_three}
 use Rattle.dx_schema_text.specs.Reading.{deps_among, refs_among, sets_among, conditions_among}
 use Rattle.dx_schema_text.specs.Spelling.{SpellsOptional, not_optional, is_optional, SpellsRef, ref_of, SpellsSet, set_of, SpellsClauses, no_clause, clause_first, a_key, a_dep, a_ref, a_set, SpellsItem, a_line, a_rule, SpellsSide, side_of, IsVersion, version_one, version_two, version_three, SpellsMapping, mapping_of}
 use Rattle.dx_schema_text.specs.Laws.{SaidIsOfVersion}
-use Rattle.dx_schema_text.specs.Print.{IsOfVersion, AreOfVersion, IsKnownVersion, the_first, the_second, the_third}
+use Rattle.dx_schema_text.specs.Print.{IsOfVersion, FitsVersion, IsKnownVersion, the_first, the_second, the_third}
 
 optional_sayable : {optionals b : Bool} {xs : List Lexeme} → SpellsOptional optionals b xs → b ≡ true → optionals ≡ true
 optional_sayable not_optional e = absurd cc
@@ -28,10 +28,10 @@ IsSayable version r = r.optional ≡ true → since_two version ≡ true
 
 -- what the clauses of a set may say in a text of this version
 abbrev AreSayable : ℕ → List Clause → Type 0
-AreSayable version cs = Each (deps_among cs) (λ d. since_three version ≡ true) × Each (refs_among cs) (IsSayable version) × AreOfVersion version (sets_among cs)
+AreSayable version cs = Each (deps_among cs) (λ d. since_three version ≡ true) × Each (refs_among cs) (IsSayable version) × FitsVersion version (sets_among cs)
 
 mutual
-  set_sayable : {version levels : ℕ} {t : Tree} {xs : List Lexeme} → SpellsSet version levels t xs → IsOfVersion version t.label × AreOfVersion version t.inner
+  set_sayable : {version levels : ℕ} {t : Tree} {xs : List Lexeme} → SpellsSet version levels t xs → IsOfVersion version t.label × FitsVersion version t.inner
   set_sayable (set_of c head clauses closing) = let r = clauses_sayable clauses in (record { deps = r.0; refs = r.1 }, r.2)
 
   clauses_sayable : {version levels : ℕ} {cs : List Clause} {xs : List Lexeme} → SpellsClauses version levels cs xs → AreSayable version cs
@@ -41,14 +41,14 @@ mutual
   clauses_sayable (clause_first {cs = cs} (a_ref {r = r} ref) rest) = let q = clauses_sayable rest in (q.0, each_cons r (refs_among cs) (ref_sayable ref) q.1, q.2)
   clauses_sayable (clause_first (a_set set) rest) = let q = clauses_sayable rest in let s = set_sayable set in (q.0, q.1, (s.0, s.1, q.2))
 
-sets_sayable : {version levels : ℕ} {ts : List Tree} {xs : List Lexeme} → Many (SpellsSet version levels) ts xs → AreOfVersion version (forest_of ts)
+sets_sayable : {version levels : ℕ} {ts : List Tree} {xs : List Lexeme} → Many (SpellsSet version levels) ts xs → FitsVersion version (forest_of ts)
 sets_sayable no_more = tt
 sets_sayable (one_more set rest) = let s = set_sayable set in (s.0, s.1, sets_sayable rest)
 
-side_sayable : {version : ℕ} {name : List ℕ} {levels : ℕ} {f : Forest} {xs : List Lexeme} → SpellsSide version name levels f xs → AreOfVersion version f
+side_sayable : {version : ℕ} {name : List ℕ} {levels : ℕ} {f : Forest} {xs : List Lexeme} → SpellsSide version name levels f xs → FitsVersion version f
 side_sayable (side_of k o c keyword opening sets closing) = sets_sayable sets
 
-pub said_sayable : {levels : ℕ} {m : MappingText} {xs : List Lexeme} → SpellsMapping levels m xs → AreOfVersion m.version m.source × AreOfVersion m.version m.target
+pub said_sayable : {levels : ℕ} {m : MappingText} {xs : List Lexeme} → SpellsMapping levels m xs → FitsVersion m.version m.source × FitsVersion m.version m.target
 said_sayable (mapping_of k n e keyword version ending from to rest) = (side_sayable from, side_sayable to)
 
 -- ---- conditions

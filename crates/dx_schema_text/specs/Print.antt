@@ -104,15 +104,15 @@ pub record IsOfVersion (version : ℕ) (l : Label) : Type 0 where
   pub refs : Each l.refs (λ r. r.optional ≡ true → since_two version ≡ true)
 
 -- the same of all sets
-abbrev pub AreOfVersion : ℕ → Forest → Type 0
-AreOfVersion version none = Unit {0}
-AreOfVersion version (set l inner rest) = IsOfVersion version l × AreOfVersion version inner × AreOfVersion version rest
+abbrev pub FitsVersion : ℕ → Forest → Type 0
+FitsVersion version none = Unit {0}
+FitsVersion version (set l inner rest) = IsOfVersion version l × FitsVersion version inner × FitsVersion version rest
 
 -- every name is a word, no list of names is empty, a text of this version can say the sets,
 -- and there are not too many levels of them
 pub record AreWritable (version : ℕ) (f : Forest) : Type 0 where
   pub named : HaveWordNames f
-  pub sayable : AreOfVersion version f
+  pub sayable : FitsVersion version f
   pub levels : depth f ≤ DEPTH
 
 -- a version that a text may have

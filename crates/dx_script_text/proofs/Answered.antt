@@ -8,7 +8,7 @@ use Rattle.dx_tokens.specs.declared.faults.TextFault.TheVariants.{At}
 use Rattle.dx_tokens.specs.declared.faults.TextKind.{TextKind}
 use Rattle.dx_tokens.specs.declared.faults.TextKind.TheVariants.{Character, Ended}
 use Rattle.dx_tokens.specs.Judged.{Reads}
-use Rattle.dx_tokens.proofs.Judged.{AreApart, one_fault_by, never_faulty, stop_is_fault, said_or_faulty, fault_answered, reads_ok, reads_err}
+use Rattle.dx_tokens.proofs.Judged.{KeptApart, one_fault_by, never_faulty, stop_is_fault, said_or_faulty, fault_answered, reads_ok, reads_err}
 use Rattle.dx_script_tokens.specs.declared.scanner.ScriptToken.{ScriptToken}
 use Rattle.dx_script_tokens.specs.declared.scanner.ScriptStop.{ScriptStop}
 use Rattle.dx_script_tokens.specs.declared.kinds.ScriptKind.TheVariants as kinds
@@ -98,7 +98,7 @@ at_token : (text : List ℕ) (place : ℕ) → IsUnexpectedInScript text place �
 at_token text place (inl x) = x
 at_token text place (inr x) = absurd x
 
-pub are_apart : (text : List ℕ) → AreApart (IsUnexpectedInScript text) (λ place. ⊥) (ScriptStops text)
+pub are_apart : (text : List ℕ) → KeptApart (IsUnexpectedInScript text) (λ place. ⊥) (ScriptStops text)
 are_apart text = record {
   unexpected = λ p q x y. (one_unexpected x y).1;
   deeper = λ p q x y. absurd x;

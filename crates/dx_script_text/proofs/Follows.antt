@@ -5,7 +5,7 @@ use Rattle.dx_grammar.specs.Forms.{Form, nothing, one, ◌▸◌, ◌∣◌, rep
 use Rattle.dx_grammar.specs.Lists.{listed, list_reader, past}
 use Rattle.dx_grammar.specs.Numbers.{counted, counted_reader, has_number, always, knowing}
 use Rattle.dx_grammar.specs.Readers.{give, token}
-use Rattle.dx_grammar.proofs.Verdicts.{ends, IsReader, Anything, Stops, Begins, AreApart}
+use Rattle.dx_grammar.proofs.Verdicts.{ends, IsReader, Anything, Stops, Begins, KeptApart}
 use Rattle.dx_grammar.proofs.Combined.{one_reads, nothing_reads, then_reads, then_any, last_reads, either_reads, many_reads, begins_one, begins_both, begins_choice, begins_wider, stops_at, stops_past, consumes, apart_or}
 use Rattle.dx_grammar.proofs.Lists.{past_begins, past_reads, past_consumes, list_reads}
 use Rattle.dx_grammar.proofs.Counted.{counted_reads}
@@ -27,7 +27,7 @@ begins_with : (p : ScriptToken → Bool) (b : Form ScriptToken) → Begins p (on
 begins_with p b = begins_both p (one p) b (begins_one p)
 
 -- tokens of one kind that stop lists
-stops_kind : (n m : ScriptKind) (b : Form ScriptToken) (more : List (Form ScriptToken)) → AreApart (of_kind n) (of_kind m) → Begins (of_kind m) b → Stops (of_kind n) (b ∷ more)
+stops_kind : (n m : ScriptKind) (b : Form ScriptToken) (more : List (Form ScriptToken)) → KeptApart (of_kind n) (of_kind m) → Begins (of_kind m) b → Stops (of_kind n) (b ∷ more)
 stops_kind n m b more apart begins = stops_at (of_kind n) (of_kind m) b more begins apart
 
 -- ---- CREATE TABLE target
@@ -167,7 +167,7 @@ where_reads =
       weak : IsReader (Stops is_and) where_clause equals_reader → IsReader NoWhere where_clause equals_reader
       weak r = record { reads = λ more xs ok. r.reads more xs ok.0; leaves = r.leaves }
 
-no_where : (m : ScriptKind) (b : Form ScriptToken) (more : List (Form ScriptToken)) → AreApart is_and (of_kind m) → AreApart (of_kind kinds.Where) (of_kind m) → Begins (of_kind m) b → NoWhere (b ∷ more)
+no_where : (m : ScriptKind) (b : Form ScriptToken) (more : List (Form ScriptToken)) → KeptApart is_and (of_kind m) → KeptApart (of_kind kinds.Where) (of_kind m) → Begins (of_kind m) b → NoWhere (b ∷ more)
 no_where m b more h k begins = (stops_kind kinds.And m b more h begins, stops_kind kinds.Where m b more k begins)
 
 -- what begins a form that may be left out, or the next

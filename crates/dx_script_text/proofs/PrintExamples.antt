@@ -14,7 +14,7 @@ use Rattle.dx_script.specs.declared.form.Step.TheVariants as steps
 use Rattle.dx_base.specs.Members.{Each}
 use Rattle.dx_base.proofs.Members.{each_cons}
 use Rattle.dx_tokens.specs.Tokens.{is_word_byte}
-use Rattle.dx_script_text.specs.Printable.{AreCounted, AreSome, IsCellRef, IsEqual, IsScriptName, IsOut, IsPrintableScript, IsSelect, NumberFits, IsStep, IsTest, IsUnless}
+use Rattle.dx_script_text.specs.Printable.{FitsCount, OneOrMore, IsCellRef, IsEqual, IsScriptName, IsOut, IsPrintableScript, IsSelect, NumberFits, IsStep, IsTest, IsUnless}
 use Rattle.dx_script_text.specs.Print.{create_text, match_text, keep_text, insert_text, script_text}
 
 abbrev of_x : CellRef
@@ -132,20 +132,20 @@ column_out = omega arith
 
 -- a step of any of these; as many columns and aliases as there are numbers
 any_match : (select : List Select) (sources : List (List ℕ)) (equal : List Equal) → Each select IsSelect → length select ≡ 4294967296
-    → AreSome IsScriptName sources → length sources ≡ 4294967296 → Each equal IsEqual → IsStep (steps.MatchRows 0 select sources equal)
+    → OneOrMore IsScriptName sources → length sources ≡ 4294967296 → Each equal IsEqual → IsStep (steps.MatchRows 0 select sources equal)
 any_match select sources equal s n t m e = (omega arith, (s, omega (arith, n)), (t, omega (arith, m)), e)
 
-any_keep : (unless : List Unless) → AreSome IsUnless unless → IsStep (steps.KeepRows 0 unless)
+any_keep : (unless : List Unless) → OneOrMore IsUnless unless → IsStep (steps.KeepRows 0 unless)
 any_keep unless u = (omega arith, u)
 
-any_insert : (kept : Bool) (cells : List Out) → AreSome IsOut cells → IsStep (steps.InsertRows (codes "a") 0 kept cells)
+any_insert : (kept : Bool) (cells : List Out) → OneOrMore IsOut cells → IsStep (steps.InsertRows (codes "a") 0 kept cells)
 any_insert kept cells c = (letter, omega arith, c)
 
 -- what is not
 one_too_great : ¬ NumberFits 4294967296
 one_too_great h = omega (arith, h)
 
-one_too_many : (names : List (List ℕ)) → length names ≡ 4294967297 → ¬ AreCounted names
+one_too_many : (names : List (List ℕ)) → length names ≡ 4294967297 → ¬ FitsCount names
 one_too_many names e h = omega (arith, e, h)
 
 no_partners : ¬ IsStep (steps.KeepRows 0 [])

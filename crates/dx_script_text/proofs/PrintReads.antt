@@ -31,7 +31,7 @@ use Rattle.dx_script_text.specs.Spelling.{SpellsDeclared, declared_of, create_of
 use Rattle.dx_script_text.specs.Texts.{IsScriptText}
 use Rattle.dx_script_text.specs.Print.{parted, texts_from, name_text, declared_text, create_text, cell_ref_text, value_text, item_text, select_text, source_alias_text, equal_text, where_clause_text, match_text, test_text, unless_text, keep_text, out_text, table_letter, insert_text, step_text, script_text}
 use Rattle.dx_script_tokens.specs.Quoted.{single_quoted}
-use Rattle.dx_script_text.specs.Printable.{IsScriptName, AreSome, AreCounted, IsCellRef, IsSelect, IsEqual, IsTest, IsUnless, IsOut, IsStep, IsPrintableScript}
+use Rattle.dx_script_text.specs.Printable.{IsScriptName, OneOrMore, FitsCount, IsCellRef, IsSelect, IsEqual, IsTest, IsUnless, IsOut, IsStep, IsPrintableScript}
 use Rattle.dx_script_text.proofs.PrintScans.{Reads, Ends, no_token, word_then, number_then, mark_then, blank_then, name_then, text_then, both_then, told_as, create_word, table_word, target_word, source_word, as_word, select_word, distinct_word, from_word, where_word, not_word, exists_word, insert_word, into_word, skolem_word, place_word, type_word, own_word, other_word, comma_gap, and_gap, list_read, numbered_read, reads_all}
 use Rattle.dx_script_text.proofs.Found.{eq_self}
 
@@ -122,7 +122,7 @@ word_digit (y ∷ ys) s = no_digit y s
 one_is : decimal 1 ≡ codes "1"
 one_is = decimal_digit 1 (omega arith)
 
-select_read : (select : List Select) (place : ℕ) (tail : List ℕ) → Each select IsSelect → AreCounted select → Ends tail → Reads (SpellsSelect greatest_number select) place (select_text select ++ tail) tail
+select_read : (select : List Select) (place : ℕ) (tail : List ℕ) → Each select IsSelect → FitsCount select → Ends tail → Reads (SpellsSelect greatest_number select) place (select_text select ++ tail) tail
 select_read [] place tail each room ends =
     subst (λ (w : List ℕ). Reads (SpellsSelect greatest_number []) place (w ++ tail) tail) one_is
     (number_then (SpellsSelect greatest_number []) 1 tail tail place (omega arith) (word_digit tail ends.0) (no_token _ _ tail (no_columns _ refl)))
@@ -148,7 +148,7 @@ source_read n table place tail le is ends =
     (word_then _ (97 ∷ decimal n) kinds.Alias n tail tail _ (alias_word n le) ends.0
     (no_token _ _ tail (source_of _ _ _ _ _ le refl refl refl refl (eq_self n))))))))))
 
-sources_read : (sources : List (List ℕ)) (place : ℕ) (tail : List ℕ) → AreSome IsScriptName sources → AreCounted sources → Ends tail → Reads (SpellsSources greatest_number sources) place (parted (codes ", ") (texts_from source_alias_text 0 sources) ++ tail) tail
+sources_read : (sources : List (List ℕ)) (place : ℕ) (tail : List ℕ) → OneOrMore IsScriptName sources → FitsCount sources → Ends tail → Reads (SpellsSources greatest_number sources) place (parted (codes ", ") (texts_from source_alias_text 0 sources) ++ tail) tail
 sources_read [] place tail some room ends = absurd (some.0 refl)
 sources_read (t ∷ others) place tail some room ends =
     let rest : List ℕ = flat_map (λ other. codes ", " ++ other) (texts_from source_alias_text 1 others) ++ tail in

@@ -19,7 +19,7 @@ use Rattle.dx_script_tokens.specs.Scan.{plain_token, with_token, with_tokens, sc
 use Rattle.dx_script_tokens.proofs.Standing.{IsWordOf, word_scanned, number_scanned, IsNameText, name_scanned, text_scanned, mark_scanned, blank_past}
 use Rattle.dx_script_tokens.specs.Quoted.{doubled, single_quoted}
 use Rattle.dx_script_text.specs.Print.{parted, texts_from, name_text}
-use Rattle.dx_script_text.specs.Printable.{IsScriptName, AreSome}
+use Rattle.dx_script_text.specs.Printable.{IsScriptName, OneOrMore}
 use Rattle.dx_script_text.specs.Grammar.{is_comma, is_and}
 use Rattle.dx_script_tokens.proofs.QuotedTexts.{is_quote, undoubled-doubled, quoted_read}
 
@@ -211,7 +211,7 @@ module _ {A : Type 0} (p : ScriptToken → Bool) (between : List ℕ) (sep : IsG
       both_then (R x) (λ u. Many (Past p R) (x ∷ xs) (t ∷ u)) (f x ++ (behind xs ++ tail)) (behind xs ++ tail) tail next (one x next (behind xs ++ tail) (each x (here refl)) (ends_before xs tail ends)) (λ u after h.
       told_as (Many (Past p R) xs) (λ v. Many (Past p R) (x ∷ xs) (t ∷ (u ++ v))) (behind xs ++ tail) tail after (others_read xs after tail (λ y m. each y (there m)) ends) (λ v m. one_more (past_one t e h) m))))
 
-  pub list_read : (xs : List A) (place : ℕ) (tail : List ℕ) → AreSome P xs → Ends tail → Reads (SpellsList p R xs) place (parted between (map f xs) ++ tail) tail
+  pub list_read : (xs : List A) (place : ℕ) (tail : List ℕ) → OneOrMore P xs → Ends tail → Reads (SpellsList p R xs) place (parted between (map f xs) ++ tail) tail
   list_read [] place tail some ends = absurd (some.0 refl)
   list_read (x ∷ xs) place tail some ends =
       subst (λ (text : List ℕ). Reads (SpellsList p R (x ∷ xs)) place text tail) (sym (append_assoc (f x) (behind xs) tail))

@@ -26,19 +26,19 @@ abbrev pub NumberFits : ℕ → Type 0
 NumberFits n = n ≤ greatest_number
 
 -- items that all can be printed, one at least
-abbrev pub AreSome : {A : Type 0} → (A → Type 0) → List A → Type 0
-AreSome P xs = (xs ≢ []) × Each xs P
+abbrev pub OneOrMore : {A : Type 0} → (A → Type 0) → List A → Type 0
+OneOrMore P xs = (xs ≢ []) × Each xs P
 
 -- there are no more columns or aliases than numbers
-abbrev pub AreCounted : {A : Type 0} → List A → Type 0
-AreCounted xs = length xs ≤ 4294967296
+abbrev pub FitsCount : {A : Type 0} → List A → Type 0
+FitsCount xs = length xs ≤ 4294967296
 
 abbrev pub IsCellRef : CellRef → Type 0
 IsCellRef c = NumberFits c.alias × IsScriptName c.column
 
 abbrev pub IsSelect : Select → Type 0
 IsSelect (selected.Cell c) = IsCellRef c
-IsSelect (selected.Call name args) = IsScriptName name × AreSome IsCellRef args
+IsSelect (selected.Call name args) = IsScriptName name × OneOrMore IsCellRef args
 
 abbrev pub IsEqual : Equal → Type 0
 IsEqual e = IsCellRef e.left × IsCellRef e.right
@@ -56,12 +56,12 @@ IsOut (outs.Literal text) = IsUtf8 text
 IsOut (outs.Skolem v) = NumberFits v
 
 abbrev pub IsStep : Step → Type 0
-IsStep (steps.Create table columns) = IsScriptName table × AreSome IsScriptName columns
+IsStep (steps.Create table columns) = IsScriptName table × OneOrMore IsScriptName columns
 IsStep (steps.MatchRows rule select sources equal) =
-    NumberFits rule × (Each select IsSelect × AreCounted select)
-    × (AreSome IsScriptName sources × AreCounted sources) × Each equal IsEqual
-IsStep (steps.KeepRows rule unless) = NumberFits rule × AreSome IsUnless unless
-IsStep (steps.InsertRows table rule kept cells) = IsScriptName table × NumberFits rule × AreSome IsOut cells
+    NumberFits rule × (Each select IsSelect × FitsCount select)
+    × (OneOrMore IsScriptName sources × FitsCount sources) × Each equal IsEqual
+IsStep (steps.KeepRows rule unless) = NumberFits rule × OneOrMore IsUnless unless
+IsStep (steps.InsertRows table rule kept cells) = IsScriptName table × NumberFits rule × OneOrMore IsOut cells
 
 -- every name is one, every number fits, every text is UTF-8, no list that the grammar wants is empty,
 -- and there are enough numbers for columns and aliases

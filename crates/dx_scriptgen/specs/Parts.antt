@@ -23,7 +23,7 @@ abbrev pub tests_for : List ℕ → List Cell → List Test
 tests_for others cells = map (λ own. test_for others own (slice_index_or cells own (Ex 0))) (below (length cells))
 
 -- rules that agree in the widths of their conclusions, and the covers between them
-pub record AreCoveringRules (R : List Rule) (maps : List (List (List CellMap))) : Type 0 where
+pub record CoveringRules (R : List Rule) (maps : List (List (List CellMap))) : Type 0 where
   pub rules : Each R IsRule
   pub widths : AgreeInWidths (conclusions_of R)
   pub covers : maps ≡ covers_of R

@@ -4,7 +4,7 @@ ghost use Rattle.dx_base.specs.Members.{Each};
 ghost use Rattle.dx_model.specs.Covers.{IsNoExistential, below, rule_at, used_maps};
 ghost use Rattle.dx_model.specs.Fitting.{AgreeInWidths, IsRule, conclusions_of};
 ghost use Rattle.dx_script.specs.Rewritten.{unless_of, unless_parts};
-ghost use Rattle.dx_scriptgen.specs.Parts.{AreCoveringRules, test_for, tests_for};
+ghost use Rattle.dx_scriptgen.specs.Parts.{CoveringRules, test_for, tests_for};
 
 use crate::inserts::position;
 use dx_base::Items;
@@ -55,7 +55,7 @@ fn push_parts(
     i: u32,
     j: u32,
 ) -> Result<(), AllocError>
-    requires known { AreCoveringRules rules.now covers.now }
+    requires known { CoveringRules rules.now covers.now }
     requires first { i < length rules.now }
     requires second { j < length rules.now }
     ensures { OnOk result (parts.new ≡ parts.old ++ map (unless_of rules.now i j) (used_maps (rule_at rules.now i) (rule_at rules.now j))) }
@@ -77,7 +77,7 @@ fn parts_of(
     covers: &Covers,
     i: u32,
 ) -> Result<Items<Unless>, AllocError>
-    requires known { AreCoveringRules rules.now covers.now }
+    requires known { CoveringRules rules.now covers.now }
     requires first { i < length rules.now }
     requires few { length rules.now < 4294967296 }
     ensures { IfOk result (λ parts. parts ≡ unless_parts rules.now i) }

@@ -8,7 +8,7 @@ use Rattle.dx_base.proofs.Members.{from_append, from_map, in_at}
 use Rattle.dx_model.specs.declared.values.Value.{Value}
 use Rattle.dx_instance.specs.Cells.{NumberTable, with_numbers}
 use Rattle.dx_instance.specs.Numbers.{Extends}
-use Rattle.dx_instance.specs.Shown.{AreBelow, NumberedInstance, NumberRowsFit, shown, shown_row, shown_tables}
+use Rattle.dx_instance.specs.Shown.{NumbersBelow, NumberedInstance, NumberRowsFit, shown, shown_row, shown_tables}
 use Rattle.dx_instance.specs.Stored.{AddsRow, TableRows, with_row}
 use Rattle.dx_instance.proofs.ShownFacts.{grown_below, from_set}
 use Rattle.dx_instance.proofs.StoredFacts.{adds_row}
@@ -27,18 +27,18 @@ empties_fit ws tables n i some h t u m =
     let r = from_map (λ (w : ℕ). let t : NumberTable = record { width = w; rows = [] } in t) ws (subst (λ (l : List NumberTable). u ∈ l) all m) in
     rw (← r.2) (record { columns = some r.0 r.1; within = λ row k. elim k [ ] })
 
-with_fit : (n : ℕ) (t : NumberTable) (row : List ℕ) → NumberRowsFit n t → AreBelow n row → NumberRowsFit n (with_numbers t row)
+with_fit : (n : ℕ) (t : NumberTable) (row : List ℕ) → NumberRowsFit n t → NumbersBelow n row → NumberRowsFit n (with_numbers t row)
 with_fit n t row f b = record {
   columns = f.columns;
   within = λ r m. elim (from_append t.rows m) [ inl l ↦ f.within r l | inr k ↦ last r k ];
 }
   where
-    last : (r : List ℕ) → r ∈ (row ∷ []) → AreBelow n r
-    last r (here e) = subst (AreBelow n) e b
+    last : (r : List ℕ) → r ∈ (row ∷ []) → NumbersBelow n r
+    last r (here e) = subst (NumbersBelow n) e b
     last r (there k) = elim k [ ]
 
 -- a row more in one of the tables
-pub put_fit : {X : Type 0} (r : Result X AllocError) (n : ℕ) (ts : List NumberTable) (i : ℕ) (told new : NumberTable) (row : List ℕ) → Each ts (NumberRowsFit n) → i < length ts → told ≡ get_or ts i told → AreBelow n row
+pub put_fit : {X : Type 0} (r : Result X AllocError) (n : ℕ) (ts : List NumberTable) (i : ℕ) (told new : NumberTable) (row : List ℕ) → Each ts (NumberRowsFit n) → i < length ts → told ≡ get_or ts i told → NumbersBelow n row
     → OnOk r (new ≡ with_numbers told row) → OnErr r (new ≡ told) → Each (set ts i new) (NumberRowsFit n)
 put_fit {X} r n ts i told new row f h e b a x u m = elim (from_set ts i new u m) [
   | inl q ↦ subst (NumberRowsFit n) q (one r a x)

@@ -18,16 +18,16 @@ use Rattle.dx_model.specs.Fitting.{AtomsFitWidths, IsRule}
 use Rattle.dx_model.specs.Rules.{AreRows, IsRows, cells_of, exported}
 use Rattle.dx_model.proofs.RowsExist.{rows_exist}
 use Rattle.dx_instance.specs.Cells.{IsOrderOf, NumberTable, NumbersAscend}
-use Rattle.dx_instance.specs.Numbers.{AreDistinctValues, Extends, IsOrdering, ValuesAscend, value_of}
-use Rattle.dx_instance.specs.Shown.{AreBelow, renumbered}
+use Rattle.dx_instance.specs.Numbers.{ValuesDiffer, Extends, IsOrdering, ValuesAscend, value_of}
+use Rattle.dx_instance.specs.Shown.{NumbersBelow, renumbered}
 use Rattle.dx_instance.proofs.ShownFacts.{extends_both}
-use Rattle.dx_joins.specs.Shown.{AreTexts, StandFor, is_text, texts_of}
+use Rattle.dx_joins.specs.Shown.{AllTexts, StandFor, is_text, texts_of}
 use Rattle.dx_instance.specs.Ranks.{text_of_value}
 use Rattle.dx_instance.proofs.SortFacts.{distinct_numbers}
 use Rattle.dx_joins.proofs.Translating.{distinct_texts}
 use Rattle.dx_joins.proofs.Whole.{stand_grow}
 use Rattle.dx_tgd.specs.Counting.{canonical_cells}
-use Rattle.dx_tgd.specs.Found.{AreFoundRules, IsFoundRule, IsRenumbering, IsTuple, MoreCells}
+use Rattle.dx_tgd.specs.Found.{AllRulesFound, IsFoundRule, IsRenumbering, IsTuple, MoreCells}
 use Rattle.dx_tgd.specs.Placed.{HasCell}
 use Rattle.dx_tgd.specs.Texts.{FitRules, tuples_in}
 use Rattle.dx_tgd.proofs.Ascending.{tuples_ascend}
@@ -35,19 +35,19 @@ use Rattle.dx_tgd.proofs.Steps.{tuples_grown}
 
 -- ---- as symbols grow
 
-pub found_grown : (convert : Conversions) (I : List Fact) (S T : List Value) (R : List Rule) (ts : List NumberTable) → Extends S T → AreFoundRules convert I S R ts → AreFoundRules convert I T R ts
+pub found_grown : (convert : Conversions) (I : List Fact) (S T : List Value) (R : List Rule) (ts : List NumberTable) → Extends S T → AllRulesFound convert I S R ts → AllRulesFound convert I T R ts
 found_grown convert I S T [] [] e f = tt
 found_grown convert I S T [] (t ∷ ts) e f = absurd f
 found_grown convert I S T (d ∷ R) [] e f = absurd f
 found_grown convert I S T (d ∷ R) (t ∷ ts) e f = (stand_grow (length (exported d)) (IsTuple convert I d) S T t e f.0, found_grown convert I S T R ts e f.1)
 
-pub found_more : (convert : Conversions) (I : List Fact) (S : List Value) (R : List Rule) (ts : List NumberTable) (d : Rule) (t : NumberTable) → AreFoundRules convert I S R ts → IsFoundRule convert I S d t → AreFoundRules convert I S (R ++ d ∷ []) (ts ++ t ∷ [])
+pub found_more : (convert : Conversions) (I : List Fact) (S : List Value) (R : List Rule) (ts : List NumberTable) (d : Rule) (t : NumberTable) → AllRulesFound convert I S R ts → IsFoundRule convert I S d t → AllRulesFound convert I S (R ++ d ∷ []) (ts ++ t ∷ [])
 found_more convert I S [] [] d t f g = (g, tt)
 found_more convert I S [] (u ∷ ts) d t f g = absurd f
 found_more convert I S (e ∷ R) [] d t f g = absurd f
 found_more convert I S (e ∷ R) (u ∷ ts) d t f g = (f.0, found_more convert I S R ts d t f.1 g)
 
-grown_tuples : (convert : Conversions) (I : List Fact) (S T : List Value) (R : List Rule) (ts : List NumberTable) → Extends S T → AreFoundRules convert I S R ts → tuples_in T ts ≡ tuples_in S ts
+grown_tuples : (convert : Conversions) (I : List Fact) (S T : List Value) (R : List Rule) (ts : List NumberTable) → Extends S T → AllRulesFound convert I S R ts → tuples_in T ts ≡ tuples_in S ts
 grown_tuples convert I S T [] [] e f = refl
 grown_tuples convert I S T [] (t ∷ ts) e f = absurd f
 grown_tuples convert I S T (d ∷ R) [] e f = absurd f
@@ -58,21 +58,21 @@ grown_tuples convert I S T (d ∷ R) (t ∷ ts) e f =
 
 -- ---- what is found fits
 
-pub found_texts : (convert : Conversions) (I : List Fact) (S : List Value) (R : List Rule) (ts : List NumberTable) → AreFoundRules convert I S R ts → Each ts (λ (t : NumberTable). Each t.rows (AreTexts S))
+pub found_texts : (convert : Conversions) (I : List Fact) (S : List Value) (R : List Rule) (ts : List NumberTable) → AllRulesFound convert I S R ts → Each ts (λ (t : NumberTable). Each t.rows (AllTexts S))
 found_texts convert I S [] [] f u m = elim m [ ]
 found_texts convert I S [] (t ∷ ts) f u m = absurd f
 found_texts convert I S (d ∷ R) [] f u m = absurd f
 found_texts convert I S (d ∷ R) (t ∷ ts) f u (here e) = rw (← e) f.0.texts
 found_texts convert I S (d ∷ R) (t ∷ ts) f u (there m) = found_texts convert I S R ts f.1 u m
 
-pub found_ascend : (convert : Conversions) (I : List Fact) (S : List Value) (R : List Rule) (ts : List NumberTable) → AreFoundRules convert I S R ts → Each ts (λ (t : NumberTable). NumbersAscend t.rows)
+pub found_ascend : (convert : Conversions) (I : List Fact) (S : List Value) (R : List Rule) (ts : List NumberTable) → AllRulesFound convert I S R ts → Each ts (λ (t : NumberTable). NumbersAscend t.rows)
 found_ascend convert I S [] [] f u m = elim m [ ]
 found_ascend convert I S [] (t ∷ ts) f u m = absurd f
 found_ascend convert I S (d ∷ R) [] f u m = absurd f
 found_ascend convert I S (d ∷ R) (t ∷ ts) f u (here e) = rw (← e) f.0.ascend
 found_ascend convert I S (d ∷ R) (t ∷ ts) f u (there m) = found_ascend convert I S R ts f.1 u m
 
-pub found_fit : (convert : Conversions) (I : List Fact) (S : List Value) (R : List Rule) (ts : List NumberTable) → AreFoundRules convert I S R ts → FitRules S R ts
+pub found_fit : (convert : Conversions) (I : List Fact) (S : List Value) (R : List Rule) (ts : List NumberTable) → AllRulesFound convert I S R ts → FitRules S R ts
 found_fit convert I S [] [] f = tt
 found_fit convert I S [] (t ∷ ts) f = absurd f
 found_fit convert I S (d ∷ R) [] f = absurd f
@@ -80,7 +80,7 @@ found_fit convert I S (d ∷ R) (t ∷ ts) f = (record { width = f.0.width; text
 
 -- ---- in another order
 
-ranked_row : (S T : List Value) (ranks row : List ℕ) → IsOrdering S T ranks → AreTexts S row → AreTexts T (map (slice_index ranks) row) × (texts_of T (map (slice_index ranks) row) ≡ texts_of S row)
+ranked_row : (S T : List Value) (ranks row : List ℕ) → IsOrdering S T ranks → AllTexts S row → AllTexts T (map (slice_index ranks) row) × (texts_of T (map (slice_index ranks) row) ≡ texts_of S row)
 ranked_row S T ranks [] o h = ((λ n m. elim m [ ]), refl)
 ranked_row S T ranks (n ∷ row) o h =
     let k = h n (here refl) in
@@ -90,12 +90,12 @@ ranked_row S T ranks (n ∷ row) o h =
     let tail = rest.1 in
     (texts k same rest.0, cc (first, tail))
   where
-    texts : (n < length S) × (is_text (value_of S n) ≡ true) → value_of T (slice_index ranks n) ≡ value_of S n → AreTexts T (map (slice_index ranks) row) → AreTexts T (slice_index ranks n ∷ map (slice_index ranks) row)
+    texts : (n < length S) × (is_text (value_of S n) ≡ true) → value_of T (slice_index ranks n) ≡ value_of S n → AllTexts T (map (slice_index ranks) row) → AllTexts T (slice_index ranks n ∷ map (slice_index ranks) row)
     texts k same rest m (here e) = rw (← e) (o.within n k.0, ap is_text same ∙ k.1)
     texts k same rest m (there q) = rest m q
 
-ranked_rows : (S T : List Value) (ranks : List ℕ) (rows : List (List ℕ)) → IsOrdering S T ranks → Each rows (AreTexts S)
-    → Each (map (λ (r : List ℕ). map (slice_index ranks) r) rows) (AreTexts T) × (map (texts_of T) (map (λ (r : List ℕ). map (slice_index ranks) r) rows) ≡ map (texts_of S) rows)
+ranked_rows : (S T : List Value) (ranks : List ℕ) (rows : List (List ℕ)) → IsOrdering S T ranks → Each rows (AllTexts S)
+    → Each (map (λ (r : List ℕ). map (slice_index ranks) r) rows) (AllTexts T) × (map (texts_of T) (map (λ (r : List ℕ). map (slice_index ranks) r) rows) ≡ map (texts_of S) rows)
 ranked_rows S T ranks [] o h = ((λ n m. elim m [ ]), refl)
 ranked_rows S T ranks (r ∷ rows) o h =
     let one = ranked_row S T ranks r o (h r (here refl)) in
@@ -104,14 +104,14 @@ ranked_rows S T ranks (r ∷ rows) o h =
     let tail = rest.1 in
     (texts one.0 rest.0, cc (first, tail))
   where
-    texts : AreTexts T (map (slice_index ranks) r) → Each (map (λ (q : List ℕ). map (slice_index ranks) q) rows) (AreTexts T) → Each (map (slice_index ranks) r ∷ map (λ (q : List ℕ). map (slice_index ranks) q) rows) (AreTexts T)
+    texts : AllTexts T (map (slice_index ranks) r) → Each (map (λ (q : List ℕ). map (slice_index ranks) q) rows) (AllTexts T) → Each (map (slice_index ranks) r ∷ map (λ (q : List ℕ). map (slice_index ranks) q) rows) (AllTexts T)
     texts a b m (here e) = rw (← e) a
     texts a b m (there q) = b m q
 
 same_mapped : {X Y : Type 0} (f : X → Y) (xs ys : List X) (y : Y) → xs ⊆ ys → y ∈ map f xs → y ∈ map f ys
 same_mapped f xs ys y s m = let p = from_map f xs m in subst (λ z. z ∈ map f ys) p.2 (in_map f (s p.0 p.1))
 
-pub is_reordered : (S T : List Value) (ranks : List ℕ) (t u : NumberTable) → IsOrdering S T ranks → Each t.rows (AreTexts S) → IsOrderOf (renumbered ranks t) u → IsRenumbering S T t u
+pub is_reordered : (S T : List Value) (ranks : List ℕ) (t u : NumberTable) → IsOrdering S T ranks → Each t.rows (AllTexts S) → IsOrderOf (renumbered ranks t) u → IsRenumbering S T t u
 is_reordered S T ranks t u o h p =
     let q = ranked_rows S T ranks t.rows o h in record {
       width = p.width;
@@ -123,27 +123,27 @@ is_reordered S T ranks t u o h p =
       );
     }
 
-pub same_order : (S : List Value) (t : NumberTable) → NumbersAscend t.rows → Each t.rows (AreTexts S) → IsRenumbering S S t t
+pub same_order : (S : List Value) (t : NumberTable) → NumbersAscend t.rows → Each t.rows (AllTexts S) → IsRenumbering S S t t
 same_order S t a h = record { width = refl; ascend = a; texts = h; same = λ s. ((λ m. m), (λ m. m)) }
 
-pub all_same_order : (S : List Value) (ts : List NumberTable) → Each ts (λ (t : NumberTable). NumbersAscend t.rows) → Each ts (λ (t : NumberTable). Each t.rows (AreTexts S)) → AllZip (IsRenumbering S S) ts ts
+pub all_same_order : (S : List Value) (ts : List NumberTable) → Each ts (λ (t : NumberTable). NumbersAscend t.rows) → Each ts (λ (t : NumberTable). Each t.rows (AllTexts S)) → AllZip (IsRenumbering S S) ts ts
 all_same_order S [] a h = tt
 all_same_order S (t ∷ ts) a h = (same_order S t (a t (here refl)) (h t (here refl)), all_same_order S ts (λ u m. a u (there m)) (λ u m. h u (there m)))
 
-pub all_reordered : (S T : List Value) (ranks : List ℕ) (ts us : List NumberTable) → IsOrdering S T ranks → Each ts (λ (t : NumberTable). Each t.rows (AreTexts S)) → AllZip (λ t u. IsOrderOf (renumbered ranks t) u) ts us
+pub all_reordered : (S T : List Value) (ranks : List ℕ) (ts us : List NumberTable) → IsOrdering S T ranks → Each ts (λ (t : NumberTable). Each t.rows (AllTexts S)) → AllZip (λ t u. IsOrderOf (renumbered ranks t) u) ts us
     → AllZip (IsRenumbering S T) ts us
 all_reordered S T ranks [] [] o h z = tt
 all_reordered S T ranks [] (u ∷ us) o h z = absurd z
 all_reordered S T ranks (t ∷ ts) [] o h z = absurd z
 all_reordered S T ranks (t ∷ ts) (u ∷ us) o h z = (is_reordered S T ranks t u o (h t (here refl)) z.0, all_reordered S T ranks ts us o (λ x m. h x (there m)) z.1)
 
-below_ranks : (S T : List Value) (ranks : List ℕ) (row : List ℕ) → IsOrdering S T ranks → AreTexts S row → AreBelow (length ranks) row
+below_ranks : (S T : List Value) (ranks : List ℕ) (row : List ℕ) → IsOrdering S T ranks → AllTexts S row → NumbersBelow (length ranks) row
 below_ranks S T ranks row o h n m = omega (arith, (h n m).0, o.ranked)
 
-pub rows_below : (S T : List Value) (ranks : List ℕ) (t : NumberTable) → IsOrdering S T ranks → Each t.rows (AreTexts S) → Each t.rows (AreBelow (length ranks))
+pub rows_below : (S T : List Value) (ranks : List ℕ) (t : NumberTable) → IsOrdering S T ranks → Each t.rows (AllTexts S) → Each t.rows (NumbersBelow (length ranks))
 rows_below S T ranks t o h r m = below_ranks S T ranks r o (h r m)
 
-pub all_below : (S T : List Value) (ranks : List ℕ) (ts : List NumberTable) → IsOrdering S T ranks → Each ts (λ (t : NumberTable). Each t.rows (AreTexts S)) → Each ts (λ (t : NumberTable). Each t.rows (AreBelow (length ranks)))
+pub all_below : (S T : List Value) (ranks : List ℕ) (ts : List NumberTable) → IsOrdering S T ranks → Each ts (λ (t : NumberTable). Each t.rows (AllTexts S)) → Each ts (λ (t : NumberTable). Each t.rows (NumbersBelow (length ranks)))
 all_below S T ranks ts o h t m = rows_below S T ranks t o (h t m)
 
 pub stand_reordered : (n : ℕ) (P : Tuple → Type 0) (S T : List Value) (t u : NumberTable) → IsRenumbering S T t u → StandFor n P S t → StandFor n P T u
@@ -154,7 +154,7 @@ stand_reordered n P S T t u r s = record {
   exact = λ x. ((λ m. (s.exact x).0 ((r.same x).0 m)), (λ p. (r.same x).1 ((s.exact x).1 p)));
 }
 
-pub found_reordered : (convert : Conversions) (I : List Fact) (S T : List Value) (R : List Rule) (ts us : List NumberTable) → AllZip (IsRenumbering S T) ts us → AreFoundRules convert I S R ts → AreFoundRules convert I T R us
+pub found_reordered : (convert : Conversions) (I : List Fact) (S T : List Value) (R : List Rule) (ts us : List NumberTable) → AllZip (IsRenumbering S T) ts us → AllRulesFound convert I S R ts → AllRulesFound convert I T R us
 found_reordered convert I S T [] [] [] z f = tt
 found_reordered convert I S T [] [] (u ∷ us) z f = absurd z
 found_reordered convert I S T [] (t ∷ ts) us z f = absurd f
@@ -174,7 +174,7 @@ rule_rows convert I S d t up s = record {
   );
 }
 
-pub all_rule_rows : (convert : Conversions) (I : List Fact) (S : List Value) (R : List Rule) (ts : List NumberTable) → ValuesAscend S → AreFoundRules convert I S R ts → AreRows convert R I (tuples_in S ts)
+pub all_rule_rows : (convert : Conversions) (I : List Fact) (S : List Value) (R : List Rule) (ts : List NumberTable) → ValuesAscend S → AllRulesFound convert I S R ts → AreRows convert R I (tuples_in S ts)
 all_rule_rows convert I S [] [] up f = tt
 all_rule_rows convert I S [] (t ∷ ts) up f = absurd f
 all_rule_rows convert I S (d ∷ R) [] up f = absurd f
@@ -197,13 +197,13 @@ to_shown : (convert : Conversions) (I : List Fact) (d : Rule) (ts : List Tuple) 
 to_shown convert I d ts t a q = (a.exact t).1 (q.0, record { premise = q.1.atoms; derived = q.1.derives }, q.2)
 
 -- rows of numbers are no more than the rows of their rule
-found_few : (convert : Conversions) (I : List Fact) (S : List Value) (d : Rule) (t : NumberTable) (ts : List Tuple) → AreDistinctValues S → IsFoundRule convert I S d t → IsRows convert d I ts → length t.rows ≤ length ts
+found_few : (convert : Conversions) (I : List Fact) (S : List Value) (d : Rule) (t : NumberTable) (ts : List Tuple) → ValuesDiffer S → IsFoundRule convert I S d t → IsRows convert d I ts → length t.rows ≤ length ts
 found_few convert I S d t ts p s a =
     let few = no_longer (map (texts_of S) t.rows) ts (distinct_texts S t.rows p s.texts (distinct_numbers t.rows s.ascend)) (λ u m. to_shown convert I d ts u a ((s.exact u).0 m)) in
     omega (arith, few, length-map t.rows (texts_of S))
 
 -- the rows of all rules have no fewer canonical cells than what is found of the first of them
-found_cells : (convert : Conversions) (I : List Fact) (S : List Value) (R : List Rule) (ts : List NumberTable) (rows : Rows) → AreDistinctValues S → AreFoundRules convert I S R ts → AreRows convert R I rows → canonical_cells R (tuples_in S ts) ≤ canonical_cells R rows
+found_cells : (convert : Conversions) (I : List Fact) (S : List Value) (R : List Rule) (ts : List NumberTable) (rows : Rows) → ValuesDiffer S → AllRulesFound convert I S R ts → AreRows convert R I rows → canonical_cells R (tuples_in S ts) ≤ canonical_cells R rows
 found_cells convert I S [] [] [] p f a = omega arith
 found_cells convert I S [] [] (us ∷ rows) p f a = absurd a
 found_cells convert I S [] (t ∷ ts) rows p f a = absurd f
@@ -226,9 +226,9 @@ rows_all_exist convert (d ∷ R) I h =
 
 -- what is known of the rules before one of them: what is found of them, and what they leave of the limit
 pub record FoundSoFar (convert : Conversions) (I : List Fact) (source S : List Value) (R : List Rule) (ts : List NumberTable) (limit left : ℕ) : Type 0 where
-  pub found : AreFoundRules convert I S R ts
+  pub found : AllRulesFound convert I S R ts
   pub grows : Extends source S
-  pub apart : AreDistinctValues S
+  pub apart : ValuesDiffer S
   pub cells : canonical_cells R (tuples_in S ts) + left ≡ limit
 
 cells_more : (S : List Value) (R : List Rule) (ts : List NumberTable) (d : Rule) (t : NumberTable) → length R ≡ length ts
@@ -238,7 +238,7 @@ cells_more S [] (u ∷ ts) d t e = absurd (omega (arith, e))
 cells_more S (c ∷ R) [] d t e = absurd (omega (arith, e))
 cells_more S (c ∷ R) (u ∷ ts) d t e = let r = cells_more S R ts d t (omega (arith, e)) in omega (arith, r)
 
-found_long : (convert : Conversions) (I : List Fact) (S : List Value) (R : List Rule) (ts : List NumberTable) → AreFoundRules convert I S R ts → length R ≡ length ts
+found_long : (convert : Conversions) (I : List Fact) (S : List Value) (R : List Rule) (ts : List NumberTable) → AllRulesFound convert I S R ts → length R ≡ length ts
 found_long convert I S [] [] f = refl
 found_long convert I S [] (t ∷ ts) f = absurd f
 found_long convert I S (d ∷ R) [] f = absurd f
@@ -246,7 +246,7 @@ found_long convert I S (d ∷ R) (t ∷ ts) f = ap suc (found_long convert I S R
 
 -- one rule more
 pub so_far_more : (convert : Conversions) (I : List Fact) (source S T U : List Value) (R : List Rule) (ts us : List NumberTable) (limit left i : ℕ) (d : Rule) (t : NumberTable)
-    → FoundSoFar convert I source S (take i R) ts limit left → i < length R → d ≡ get_or R i d → Extends S T → Extends T U → AreDistinctValues U → IsFoundRule convert I U d t → us ≡ ts ++ t ∷ []
+    → FoundSoFar convert I source S (take i R) ts limit left → i < length R → d ≡ get_or R i d → Extends S T → Extends T U → ValuesDiffer U → IsFoundRule convert I U d t → us ≡ ts ++ t ∷ []
     → length t.rows * length (cells_of d.conclusion) ≤ left → FoundSoFar convert I source U (take (i + 1) R) us limit (left - length t.rows * length (cells_of d.conclusion))
 so_far_more convert I source S T U R ts us limit left i d t k h is e g p f more few =
     let grown = extends_both S T U e g in
@@ -278,7 +278,7 @@ passes convert I source S R ts limit left i d us k rules h is distinct each many
     one : (ws : List Tuple) → IsRows convert d I ws → length us ≤ length ws
     one ws a = no_longer us ws distinct (λ t m. to_shown convert I d ws t a (each t m))
 
-    split : (Q : List Rule) (rows : Rows) (vs : List NumberTable) (j : ℕ) → AreFoundRules convert I S (take j Q) vs → AreRows convert Q I rows → j < length Q → d ≡ get_or Q j d
+    split : (Q : List Rule) (rows : Rows) (vs : List NumberTable) (j : ℕ) → AllRulesFound convert I S (take j Q) vs → AreRows convert Q I rows → j < length Q → d ≡ get_or Q j d
         → canonical_cells (take j Q) (tuples_in S vs) + length us * n ≤ canonical_cells Q rows
     split [] rows vs j f a b e = absurd (omega (arith, b))
     split (q ∷ Q) [] vs j f a b e = absurd a
@@ -296,7 +296,7 @@ passes convert I source S R ts limit left i d us k rules h is distinct each many
 pub none_passes : (most cells left n : ℕ) → 1 ≤ cells → most ≡ left / cells → most < n → left < n * cells
 none_passes most cells left n some is more = (div-lt_iff_lt-mul {k = cells} {x = left} {y = n} some).0 (rw (← is) more)
 
-pub tuples_distinct : (convert : Conversions) (I : List Fact) (S : List Value) (d : Rule) (t : NumberTable) → AreDistinctValues S → IsFoundRule convert I S d t → Distinct (map (texts_of S) t.rows)
+pub tuples_distinct : (convert : Conversions) (I : List Fact) (S : List Value) (d : Rule) (t : NumberTable) → ValuesDiffer S → IsFoundRule convert I S d t → Distinct (map (texts_of S) t.rows)
 tuples_distinct convert I S d t p s = distinct_texts S t.rows p s.texts (distinct_numbers t.rows s.ascend)
 
 pub tuples_shown : (convert : Conversions) (I : List Fact) (S : List Value) (d : Rule) (t : NumberTable) → IsFoundRule convert I S d t → Each (map (texts_of S) t.rows) (IsTuple convert I d)
@@ -310,12 +310,12 @@ zip_more R xs ys now i x y h is e z r = rw (e, take_more xs i x h, ← is) (zip_
 
 -- ---- in order, within the limit
 
-pub reordered_few : (S T : List Value) (t u : NumberTable) → AreDistinctValues T → IsRenumbering S T t u → length u.rows ≤ length t.rows
+pub reordered_few : (S T : List Value) (t u : NumberTable) → ValuesDiffer T → IsRenumbering S T t u → length u.rows ≤ length t.rows
 reordered_few S T t u p r =
     let few = no_longer (map (texts_of T) u.rows) (map (texts_of S) t.rows) (distinct_texts T u.rows p r.texts (distinct_numbers u.rows r.ascend)) (λ s m. (r.same s).0 m) in
     omega (arith, few, length-map u.rows (texts_of T), length-map t.rows (texts_of S))
 
-pub reordered_cells : (S T : List Value) (R : List Rule) (ts us : List NumberTable) → AreDistinctValues T → AllZip (IsRenumbering S T) ts us → canonical_cells R (tuples_in T us) ≤ canonical_cells R (tuples_in S ts)
+pub reordered_cells : (S T : List Value) (R : List Rule) (ts us : List NumberTable) → ValuesDiffer T → AllZip (IsRenumbering S T) ts us → canonical_cells R (tuples_in T us) ≤ canonical_cells R (tuples_in S ts)
 reordered_cells S T [] ts us p z = omega arith
 reordered_cells S T (d ∷ R) [] [] p z = omega arith
 reordered_cells S T (d ∷ R) [] (u ∷ us) p z = absurd z
@@ -344,7 +344,7 @@ have_cells ws R h rules fit d m = some_cells ws d.conclusion h (rules d m).some_
 
 -- ---- the loop over rules
 
-pub found_start : (convert : Conversions) (I : List Fact) (source S : List Value) (ts : List NumberTable) (limit : ℕ) → S ≡ source → ts ≡ [] → AreDistinctValues source → FoundSoFar convert I source S [] ts limit limit
+pub found_start : (convert : Conversions) (I : List Fact) (source S : List Value) (ts : List NumberTable) (limit : ℕ) → S ≡ source → ts ≡ [] → ValuesDiffer source → FoundSoFar convert I source S [] ts limit limit
 found_start convert I source S ts limit e f p =
     rw (e, f) (record { found = tt; grows = record { more = []; is = sym (append-nil source) }; apart = p; cells = omega arith })
 

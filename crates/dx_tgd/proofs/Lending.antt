@@ -10,7 +10,7 @@ use Rattle.dx_model.specs.declared.values.Value.TheVariants.{Null}
 use Rattle.dx_model.specs.Values.{Rows, Tuple}
 use Rattle.dx_instance.specs.Cells.{NumberTable, numbers_at}
 use Rattle.dx_instance.specs.Numbers.{value_of}
-use Rattle.dx_joins.specs.Shown.{AreTexts, is_text, texts_of}
+use Rattle.dx_joins.specs.Shown.{AllTexts, is_text, texts_of}
 use Rattle.dx_instance.specs.Ranks.{text_of_value}
 use Rattle.dx_tgd.specs.Texts.{tuples_in}
 
@@ -25,7 +25,7 @@ get_map f (x ∷ xs) (suc i) d e h = get_map f xs i d e (omega (arith, h))
 pub text_within : (S : List Value) (row : List ℕ) (t : Tuple) (i : ℕ) → texts_of S row ≡ t → i < length t → i < length row
 text_within S row t i e h = let n = ap length e in let m = length-map row (λ n. text_of_value (value_of S n)) in omega (arith, h, n, m)
 
-pub text_number : (S : List Value) (row : List ℕ) (i n : ℕ) → AreTexts S row → i < length row → n ≡ get_or row i 0
+pub text_number : (S : List Value) (row : List ℕ) (i n : ℕ) → AllTexts S row → i < length row → n ≡ get_or row i 0
     → (n < length S) × (is_text (value_of S n) ≡ true)
 text_number S row i n a h e = a n (subst (λ m. m ∈ row) (sym e) (in_at row i 0 h))
 

@@ -25,15 +25,15 @@ use Rattle.dx_tgd.specs.declared.planned.PlannedCell.{PlannedCell}
 use Rattle.dx_tgd.specs.declared.planned.PlannedCell.TheVariants.{Column, Fixed, Nulls}
 use Rattle.dx_tgd.specs.declared.planned.PlannedAtom.{PlannedAtom}
 use Rattle.dx_tgd.specs.Placed.{place_null}
-use Rattle.dx_tgd.specs.Planned.{AreNullNumbers, HasNumber, IsCellPlan, IsPlannedAtom, StandsAs, planned_number, planned_fact}
-use Rattle.dx_joins.specs.Shown.{AreTexts, texts_of}
+use Rattle.dx_tgd.specs.Planned.{NumbersOfNulls, HasNumber, IsCellPlan, IsPlannedAtom, StandsAs, planned_number, planned_fact}
+use Rattle.dx_joins.specs.Shown.{AllTexts, texts_of}
 use Rattle.dx_instance.specs.Ranks.{text_of_value}
 use Rattle.dx_joins.proofs.Translating.{text_back}
 
 pub grown_stands : (S T : List Value) (n : ℕ) (v : Value) → Extends S T → StandsAs S n v → StandsAs T n v
 grown_stands S T n v e s = record { within = omega (arith, s.within, longer S T e); value = grown_value S T n e s.within ∙ s.value }
 
-grown_nulls : (S T : List Value) (i v n : ℕ) (ns : List ℕ) → Extends S T → AreNullNumbers S i v n ns → AreNullNumbers T i v n ns
+grown_nulls : (S T : List Value) (i v n : ℕ) (ns : List ℕ) → Extends S T → NumbersOfNulls S i v n ns → NumbersOfNulls T i v n ns
 grown_nulls S T i v n ns e h = record { many = h.many; each = λ k b. grown_stands S T (slice_index ns k) (place_null i k v) e (h.each k b) }
 
 pub grown_plan : (S T : List Value) (i : ℕ) (vars : List ℕ) (n : ℕ) (p : PlannedCell) (c : Cell) → Extends S T → IsCellPlan S i vars n p c → IsCellPlan T i vars n p c
@@ -67,7 +67,7 @@ atoms_more S T i vars n ps atoms k p a h e g z r =
     zip_more (IsPlannedAtom T i vars n) ps atoms k p a h e (zip_grow (IsPlannedAtom S i vars n) (IsPlannedAtom T i vars n) ps (take k atoms) (λ q d. grown_atom S T i vars n q d g) z) r
 
 -- one null more
-pub nulls_more : (S T : List Value) (i v k n : ℕ) (ns : List ℕ) → Extends S T → AreNullNumbers S i v k ns → n < length T → value_of T n ≡ place_null i k v → AreNullNumbers T i v (k + 1) (ns ++ n ∷ [])
+pub nulls_more : (S T : List Value) (i v k n : ℕ) (ns : List ℕ) → Extends S T → NumbersOfNulls S i v k ns → n < length T → value_of T n ≡ place_null i k v → NumbersOfNulls T i v (k + 1) (ns ++ n ∷ [])
 nulls_more S T i v k n ns g h b e = record { many = omega (arith, h.many, length-append ns (n ∷ [])); each = each }
   where
     each : (j : ℕ) → j < k + 1 → StandsAs T (slice_index (ns ++ n ∷ []) j) (place_null i j v)
@@ -79,7 +79,7 @@ nulls_more S T i v k n ns g h b e = record { many = omega (arith, h.many, length
           subst (λ (x : ℕ). StandsAs T x (place_null i j v)) (sym at) (record { within = b; value = rw q e })
     ]
 
-pub no_nulls : (S : List Value) (i v : ℕ) → AreNullNumbers S i v 0 []
+pub no_nulls : (S : List Value) (i v : ℕ) → NumbersOfNulls S i v 0 []
 no_nulls S i v = record { many = refl; each = λ k h. absurd (omega arith) }
 
 -- where the text of a variable stands
@@ -111,7 +111,7 @@ maps_more {X} {Y} f xs i x ys h e g = rw g (sym (ap (map f) (take_more xs i x h 
 
 -- what is known of a row at a place
 pub record Stands (S : List Value) (d : Rule) (places : ℕ) (row : List ℕ) (k : ℕ) : Type 0 where
-  pub texts : AreTexts S row
+  pub texts : AllTexts S row
   pub wide : length row ≡ length (exported d)
   pub place : k < places
 

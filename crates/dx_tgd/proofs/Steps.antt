@@ -23,7 +23,7 @@ use Rattle.dx_tgd.specs.Gained.{GainsFacts, HasRoomForRows}
 use Rattle.dx_model.specs.Fitting.{AtomFitsWidths}
 use Rattle.dx_tgd.specs.Placed.{FitsWidths}
 use Rattle.dx_tgd.specs.Planned.{CanStand, IsPlannedAtom, planned_fact}
-use Rattle.dx_joins.specs.Shown.{AreTexts, texts_of}
+use Rattle.dx_joins.specs.Shown.{AllTexts, texts_of}
 use Rattle.dx_joins.proofs.Growing.{texts_stay, texts_grow}
 use Rattle.dx_tgd.specs.Texts.{FitRule, FitRules, tuples_in}
 use Rattle.dx_tgd.proofs.Plans.{Stands, cells_stand, plan_says}
@@ -33,7 +33,7 @@ use Rattle.dx_tgd.proofs.Tables.{no_rows}
 
 -- ---- texts stay as symbols grow
 
-pub tuples_grown : (S T : List Value) (rows : List (List ℕ)) → Extends S T → Each rows (AreTexts S) → map (texts_of T) rows ≡ map (texts_of S) rows
+pub tuples_grown : (S T : List Value) (rows : List (List ℕ)) → Extends S T → Each rows (AllTexts S) → map (texts_of T) rows ≡ map (texts_of S) rows
 tuples_grown S T [] e h = refl
 tuples_grown S T (r ∷ rows) e h =
     let first = texts_stay S T r e (h r (here refl)) in
@@ -45,7 +45,7 @@ tuples_grown S T (r ∷ rows) e h =
 pub record RuleAt (S T L : List Value) (i : ℕ) (d : Rule) (t : NumberTable) (n k : ℕ) (row : List ℕ) (ps : List PlannedAtom) : Type 0 where
   pub grows : Extends S T
   pub same : L ≡ T
-  pub texts : Each t.rows (AreTexts S)
+  pub texts : Each t.rows (AllTexts S)
   pub wide : length row ≡ length (exported d)
   pub count : n ≡ length t.rows
   pub place : k < length t.rows
@@ -53,7 +53,7 @@ pub record RuleAt (S T L : List Value) (i : ℕ) (d : Rule) (t : NumberTable) (n
   pub plan : AllZip (IsPlannedAtom T i (exported d) n) ps d.conclusion
 
 module _ (S T L : List Value) (i : ℕ) (d : Rule) (t : NumberTable) (n k : ℕ) (row : List ℕ) (ps : List PlannedAtom) (a : RuleAt S T L i d t n k row ps) where
-  texts_at : AreTexts S row
+  texts_at : AllTexts S row
   texts_at = rw a.read (a.texts (numbers_at t.rows k) (in_at t.rows k [] a.place))
 
   stands_at : Stands T d n row k
@@ -116,7 +116,7 @@ module _ (S L : List Value) (R : List Rule) (ts : List NumberTable) (i : ℕ) (d
   pub fit_at : FitRule S d t
   fit_at = zip_at (FitRule S) R ts i d t a.fit a.within a.rule a.table
 
-  pub texts_of_rule : Each t.rows (AreTexts L)
+  pub texts_of_rule : Each t.rows (AllTexts L)
   texts_of_rule row m = texts_grow S L row a.grows (fit_at.texts row m)
 
   abbrev tuples : List Tuple

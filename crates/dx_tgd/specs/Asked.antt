@@ -8,7 +8,7 @@ use Rattle.dx_model.specs.Fitting.{AtomsFitWidths, IsRule}
 use Rattle.dx_funcs.specs.declared.conversion.Conversion.{Conversion}
 use Rattle.dx_funcs.specs.Offers.{IsListed}
 use Rattle.dx_instance.specs.Cells.{NumberTable}
-use Rattle.dx_instance.specs.Shown.{AreBelow, NumberedInstance}
+use Rattle.dx_instance.specs.Shown.{NumbersBelow, NumberedInstance}
 use Rattle.dx_instance.specs.Stored.{rows_of, table_at}
 use Rattle.dx_tgd.specs.Counting.{canonical_cells}
 use Rattle.dx_tgd.specs.Placed.{FitsWidths}
@@ -41,5 +41,5 @@ pub record HaveRowsToBuild (widths : List ℕ) (R : List Rule) (symbols : List V
 pub record HasRoomFor (b : NumberedInstance) (table : ℕ) (row : List ℕ) : Type 0 where
   pub table_there : table < length (built b)
   pub width : length row ≡ (table_at (built b) table).width
-  pub below : AreBelow (length b.symbols) row
+  pub below : NumbersBelow (length b.symbols) row
   pub room : length (rows_of (built b) table) < 2 ^ 32 - 1

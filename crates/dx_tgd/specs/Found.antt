@@ -9,7 +9,7 @@ use Rattle.dx_model.specs.declared.rules.Rule.{Rule}
 use Rattle.dx_model.specs.Values.{Conversions, Rows, Tuple}
 use Rattle.dx_model.specs.Rules.{AreRows, exported}
 use Rattle.dx_instance.specs.Cells.{NumberTable, NumbersAscend}
-use Rattle.dx_joins.specs.Shown.{AreTexts, IsMatchTuple, StandFor, texts_of}
+use Rattle.dx_joins.specs.Shown.{AllTexts, IsMatchTuple, StandFor, texts_of}
 use Rattle.dx_tgd.specs.declared.fault.CanonFault.{CanonFault}
 use Rattle.dx_tgd.specs.declared.fault.CanonFault.TheVariants.{Memory, Limit}
 use Rattle.dx_tgd.specs.Counting.{canonical_cells}
@@ -23,14 +23,14 @@ abbrev pub IsFoundRule : Conversions → List Fact → List Value → Rule → N
 IsFoundRule convert I symbols d t = StandFor (length (exported d)) (IsTuple convert I d) symbols t
 
 -- each rule has such rows
-abbrev pub AreFoundRules : Conversions → List Fact → List Value → List Rule → List NumberTable → Type 0
-AreFoundRules convert I symbols R tables = AllZip (IsFoundRule convert I symbols) R tables
+abbrev pub AllRulesFound : Conversions → List Fact → List Value → List Rule → List NumberTable → Type 0
+AllRulesFound convert I symbols R tables = AllZip (IsFoundRule convert I symbols) R tables
 
 -- the new rows ascend, and stand under the new symbols for the same tuples
 pub record IsRenumbering (old new : List Value) (t u : NumberTable) : Type 0 where
   pub width : u.width ≡ t.width
   pub ascend : NumbersAscend u.rows
-  pub texts : Each u.rows (AreTexts new)
+  pub texts : Each u.rows (AllTexts new)
   pub same : (s : Tuple) → (s ∈ map (texts_of new) u.rows) ↔ (s ∈ map (texts_of old) t.rows)
 
 -- the rules have rows that make more canonical cells than so many

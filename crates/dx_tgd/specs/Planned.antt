@@ -56,7 +56,7 @@ pub record StandsAs (symbols : List Value) (n : ℕ) (v : Value) : Type 0 where
   pub value : value_of symbols n ≡ v
 
 -- the numbers of the nulls of an existential variable, by place
-pub record AreNullNumbers (symbols : List Value) (rule v places : ℕ) (numbers : List ℕ) : Type 0 where
+pub record NumbersOfNulls (symbols : List Value) (rule v places : ℕ) (numbers : List ℕ) : Type 0 where
   pub many : length numbers ≡ places
   pub each : (k : ℕ) → k < places → StandsAs symbols (slice_index numbers k) (place_null rule k v)
 
@@ -69,7 +69,7 @@ IsCellPlan symbols rule variables places (Fixed n) (Var x) = ⊥
 IsCellPlan symbols rule variables places (Fixed n) (Ex v) = ⊥
 IsCellPlan symbols rule variables places (Fixed n) (Lit t) = StandsAs symbols n (Const t)
 IsCellPlan symbols rule variables places (Nulls ns) (Var x) = ⊥
-IsCellPlan symbols rule variables places (Nulls ns) (Ex v) = AreNullNumbers symbols rule v places ns.items
+IsCellPlan symbols rule variables places (Nulls ns) (Ex v) = NumbersOfNulls symbols rule v places ns.items
 IsCellPlan symbols rule variables places (Nulls ns) (Lit t) = ⊥
 
 -- the plan of an atom

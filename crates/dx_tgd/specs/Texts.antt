@@ -7,7 +7,7 @@ use Rattle.dx_model.specs.declared.rules.Rule.{Rule}
 use Rattle.dx_model.specs.Values.{Rows}
 use Rattle.dx_model.specs.Rules.{exported}
 use Rattle.dx_instance.specs.Cells.{NumberTable}
-use Rattle.dx_joins.specs.Shown.{AreTexts, texts_of}
+use Rattle.dx_joins.specs.Shown.{AllTexts, texts_of}
 
 -- the tuples for which the rows of each table stand
 abbrev pub tuples_in : List Value → List NumberTable → Rows
@@ -16,7 +16,7 @@ tuples_in symbols tables = map (λ (t : NumberTable). map (texts_of symbols) t.r
 -- the rows stand for texts of the rule's exported variables
 pub record FitRule (symbols : List Value) (d : Rule) (t : NumberTable) : Type 0 where
   pub width : t.width ≡ length (exported d)
-  pub texts : Each t.rows (AreTexts symbols)
+  pub texts : Each t.rows (AllTexts symbols)
 
 -- each rule has such rows
 abbrev pub FitRules : List Value → List Rule → List NumberTable → Type 0

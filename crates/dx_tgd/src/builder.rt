@@ -3,7 +3,7 @@ ghost use Rattle.std.specs.Prelude.{◌≡◌, ◌<◌, ◌≤◌, ◌-◌, ◌^
 ghost use Rattle.std.specs.List.{AllZip};
 ghost use Rattle.dx_base.specs.Members.{Each};
 ghost use Rattle.dx_model.specs.Rules.{exported as exported_of};
-ghost use Rattle.dx_instance.specs.Numbers.{AreDistinctValues, Extends, value_of};
+ghost use Rattle.dx_instance.specs.Numbers.{ValuesDiffer, Extends, value_of};
 ghost use Rattle.dx_instance.specs.Shown.{shown_row};
 ghost use Rattle.dx_instance.specs.Stored.{IsSorting, rows_of, without_rows};
 ghost use Rattle.dx_tgd.specs.Asked.{HasRoomFor};
@@ -57,7 +57,7 @@ impl Builder {
     /// The symbols, lent.
     pub fn symbols(&self) -> &Symbols
         ensures same { result.now ≡ self.now.symbols }
-        ensures apart { AreDistinctValues result.now }
+        ensures apart { ValuesDiffer result.now }
     {
         // The call tells that no value has two numbers.
         let _few = self.symbols.len();

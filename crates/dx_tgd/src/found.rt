@@ -4,8 +4,8 @@ ghost use Rattle.std.specs.List.{AllZip};
 ghost use Rattle.dx_base.specs.Members.{Each};
 ghost use Rattle.dx_instance.specs.Cells.{IsOrderOf, NumbersAscend};
 ghost use Rattle.dx_instance.specs.Numbers.{ValuesAscend};
-ghost use Rattle.dx_instance.specs.Shown.{AreBelow, renumbered};
-ghost use Rattle.dx_joins.specs.Shown.{AreTexts};
+ghost use Rattle.dx_instance.specs.Shown.{NumbersBelow, renumbered};
+ghost use Rattle.dx_joins.specs.Shown.{AllTexts};
 ghost use Rattle.dx_tgd.specs.Found.{IsRenumbering};
 
 use dx_instance::{Ordered, Rows, Symbols};
@@ -20,7 +20,7 @@ pub struct Found {
 
 // The rows under the ranks of their numbers, ascending.
 fn ranked(alloc: Global, rows: &Rows, ranks: &[u32]) -> Result<Rows, AllocError>
-    requires { Each rows.now.rows (AreBelow (length ranks.now)) }
+    requires { Each rows.now.rows (NumbersBelow (length ranks.now)) }
     ensures { IfOk result (IsOrderOf (renumbered ranks.now rows.now)) }
 {
     rows.renumbered(alloc, ranks)?.in_order(alloc)
@@ -28,7 +28,7 @@ fn ranked(alloc: Global, rows: &Rows, ranks: &[u32]) -> Result<Rows, AllocError>
 
 // The same for each table.
 fn all_ranked(alloc: Global, tables: &[Rows], ranks: &[u32]) -> Result<Vec<Rows>, AllocError>
-    requires { Each tables.now (λ t. Each t.rows (AreBelow (length ranks.now))) }
+    requires { Each tables.now (λ t. Each t.rows (NumbersBelow (length ranks.now))) }
     ensures { IfOk result (λ v. AllZip (λ t u. IsOrderOf (renumbered ranks.now t) u) tables.now v.items) }
 {
     let mut all = Vec::new(alloc);
@@ -45,7 +45,7 @@ pub(crate) fn one_in_order(
     rows: Rows,
 ) -> Result<(Symbols, Rows), AllocError>
     requires ascend { NumbersAscend rows.rows }
-    requires texts { Each rows.rows (AreTexts symbols) }
+    requires texts { Each rows.rows (AllTexts symbols) }
     ensures ascend { IfOk result (λ p. ValuesAscend p.0) }
     ensures same { IfOk result (λ p. IsRenumbering symbols p.0 rows p.1) }
 {
@@ -65,7 +65,7 @@ impl Found {
     /// `AllocError` if there is no memory.
     pub fn in_order(self, alloc: Global) -> Result<Found, AllocError>
         requires ascend { Each self.tables.items (λ t. NumbersAscend t.rows) }
-        requires texts { Each self.tables.items (λ t. Each t.rows (AreTexts self.symbols)) }
+        requires texts { Each self.tables.items (λ t. Each t.rows (AllTexts self.symbols)) }
         ensures ascend { IfOk result (λ f. ValuesAscend f.symbols) }
         ensures same { IfOk result (λ f. AllZip (IsRenumbering self.symbols f.symbols) self.tables.items f.tables.items) }
     {

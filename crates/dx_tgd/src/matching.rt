@@ -2,7 +2,7 @@
 ghost use Rattle.std.specs.Prelude.{IfOk, MatchOption};
 ghost use Rattle.dx_model.specs.Rules.{IsRows};
 ghost use Rattle.dx_funcs.specs.Serving.{Serves, offered};
-ghost use Rattle.dx_instance.specs.Numbers.{AreDistinctValues, Extends};
+ghost use Rattle.dx_instance.specs.Numbers.{ValuesDiffer, Extends};
 ghost use Rattle.dx_instance.specs.Shown.{shown_tables};
 ghost use Rattle.dx_instance.specs.Stored.{facts, widths};
 ghost use Rattle.dx_joins.specs.Shown.{MoreTuples};
@@ -37,7 +37,7 @@ pub(crate) fn rule_rows<F: Fn(u32, &Items<Text>) -> Result<Text, AllocError>, M:
     requires rule { IsMatchable (offered host.now) (widths (shown_tables source.now.symbols source.now.tables)) rule.now }
     requires symbols { Extends source.now.symbols symbols.old }
     ensures grows { Extends symbols.old symbols.new }
-    ensures apart { AreDistinctValues symbols.new }
+    ensures apart { ValuesDiffer symbols.new }
     ensures rows { IfOk result (λ o. MatchOption o
         (MoreTuples most (IsTuple M.apply (facts (shown_tables source.now.symbols source.now.tables)) rule.now))
         (IsFoundRule M.apply (facts (shown_tables source.now.symbols source.now.tables)) symbols.new rule.now)) }

@@ -6,13 +6,13 @@ ghost use Rattle.dx_model.specs.Rules.{AreRows, canonical};
 ghost use Rattle.dx_model.specs.Values.{RowsAscend};
 ghost use Rattle.dx_schema.specs.Tables.{schema_widths};
 ghost use Rattle.dx_funcs.specs.Serving.{Serves, offered};
-ghost use Rattle.dx_instance.specs.Numbers.{AreDistinctValues, Extends};
+ghost use Rattle.dx_instance.specs.Numbers.{ValuesDiffer, Extends};
 ghost use Rattle.dx_instance.specs.Shown.{shown_tables};
 ghost use Rattle.dx_instance.specs.Stored.{facts, rows_of, widths};
 ghost use Rattle.dx_tgd.specs.declared.fault.CanonFault.TheVariants.{Limit as Refused};
 ghost use Rattle.dx_tgd.specs.Asked.{IsMatchable, RulesFitWidths};
 ghost use Rattle.dx_tgd.specs.Counting.{canonical_cells};
-ghost use Rattle.dx_tgd.specs.Found.{AreFoundRules, IsCanonicalRefusal};
+ghost use Rattle.dx_tgd.specs.Found.{AllRulesFound, IsCanonicalRefusal};
 ghost use Rattle.dx_tgd.specs.Placed.{HasCell};
 ghost use Rattle.dx_tgd.specs.Texts.{tuples_in};
 
@@ -32,9 +32,9 @@ use std::alloc::{AllocError, Global};
 
 // The literals of a conclusion become symbols, so that nothing but nulls is new later.
 fn intern_literals(rule: &Rule, symbols: &mut Symbols) -> Result<(), AllocError>
-    requires { AreDistinctValues symbols.old }
+    requires { ValuesDiffer symbols.old }
     ensures grows { Extends symbols.old symbols.new }
-    ensures apart { AreDistinctValues symbols.new }
+    ensures apart { ValuesDiffer symbols.new }
 {
     for atom in rule.conclusion.items() {
         intern_cells(atom.cells.items(), symbols)?;
@@ -44,9 +44,9 @@ fn intern_literals(rule: &Rule, symbols: &mut Symbols) -> Result<(), AllocError>
 
 // The literals among these cells become symbols.
 fn intern_cells(cells: &[Cell], symbols: &mut Symbols) -> Result<(), AllocError>
-    requires { AreDistinctValues symbols.old }
+    requires { ValuesDiffer symbols.old }
     ensures grows { Extends symbols.old symbols.new }
-    ensures apart { AreDistinctValues symbols.new }
+    ensures apart { ValuesDiffer symbols.new }
 {
     for cell in cells {
         if let Cell::Lit(text) = cell {
@@ -78,7 +78,7 @@ fn found_rules<F: Fn(u32, &Items<Text>) -> Result<Text, AllocError>, M: Meaning>
     requires matchable { Each rules.now
         (IsMatchable (offered host.now) (widths (shown_tables source.now.symbols source.now.tables))) }
     requires cells { Each rules.now HasCell }
-    ensures found { IfOk result (λ f. AreFoundRules M.apply
+    ensures found { IfOk result (λ f. AllRulesFound M.apply
         (facts (shown_tables source.now.symbols source.now.tables)) f.symbols rules.now f.tables.items) }
     ensures within { IfOk result (λ f. canonical_cells rules.now (tuples_in f.symbols f.tables.items) ≤ limit) }
     ensures refused { IfErr result (IsCanonicalRefusal M.apply rules.now

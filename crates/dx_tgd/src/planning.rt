@@ -7,7 +7,7 @@ ghost use Rattle.dx_base.specs.Members.{◌∈◌, Each};
 ghost use Rattle.dx_model.specs.Values.{value_cmp};
 ghost use Rattle.dx_model.specs.declared.rules.Cell.TheVariants.{Var};
 ghost use Rattle.dx_instance.specs.Numbers.{Extends, value_of};
-ghost use Rattle.dx_tgd.specs.Planned.{AreNullNumbers, IsVariableColumn, IsCellPlan, IsPlannedAtom};
+ghost use Rattle.dx_tgd.specs.Planned.{NumbersOfNulls, IsVariableColumn, IsCellPlan, IsPlannedAtom};
 
 use crate::planned::{PlannedAtom, PlannedCell};
 use dx_instance::{NullId, Symbols, Value};
@@ -52,7 +52,7 @@ fn null_numbers(
     variable: u32,
     places: u32,
 ) -> Result<Vec<u32>, AllocError>
-    ensures nulls { IfOk result (λ v. AreNullNumbers symbols.new rule variable places v.items) }
+    ensures nulls { IfOk result (λ v. NumbersOfNulls symbols.new rule variable places v.items) }
     ensures grows { Extends symbols.old symbols.new }
 {
     let mut numbers = Vec::with_capacity(alloc, places as usize)?;

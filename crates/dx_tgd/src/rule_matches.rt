@@ -2,7 +2,7 @@
 ghost use Rattle.std.specs.Prelude.{◌≡◌, ◌<◌, ◌^◌, [], IfOk, length, slice_index_or};
 ghost use Rattle.dx_base.specs.Members.{Each};
 ghost use Rattle.dx_model.specs.Matches.{rows_of_matches};
-ghost use Rattle.dx_joins.specs.Shown.{AreTexts};
+ghost use Rattle.dx_joins.specs.Shown.{AllTexts};
 ghost use Rattle.dx_tgd.specs.Texts.{tuples_in};
 
 use crate::texts::matches_of;
@@ -24,21 +24,21 @@ impl Model for RuleMatches {
     ghost use Rattle.std.specs.Prelude.{◌<◌, ◌^◌, length};
     ghost use Rattle.dx_base.specs.Members.{Each};
     ghost use Rattle.dx_model.specs.Values.{Rows};
-    ghost use Rattle.dx_joins.specs.Shown.{AreTexts};
+    ghost use Rattle.dx_joins.specs.Shown.{AllTexts};
     ghost use Rattle.dx_tgd.specs.Texts.{tuples_in};
 
     ghost Value = { Rows };
 
     ghost view = { λ m. tuples_in m.symbols m.tables.items };
 
-    ghost invariant = { λ m. (length m.tables.items < 2 ^ 32) × Each m.tables.items (λ t. Each t.rows (AreTexts m.symbols)) };
+    ghost invariant = { λ m. (length m.tables.items < 2 ^ 32) × Each m.tables.items (λ t. Each t.rows (AllTexts m.symbols)) };
 }
 
 impl RuleMatches {
     /// The tuples for which the rows of each table stand.
     pub(crate) fn new(symbols: Symbols, tables: Vec<Rows>) -> RuleMatches
         requires few { length tables.items < 2 ^ 32 }
-        requires texts { Each tables.items (λ t. Each t.rows (AreTexts symbols)) }
+        requires texts { Each tables.items (λ t. Each t.rows (AllTexts symbols)) }
         ensures { result ≡ tuples_in symbols tables.items }
     {
         RuleMatches { symbols, tables }
@@ -71,7 +71,7 @@ impl RuleMatches {
     /// The symbols, and for each rule the rows of their numbers that stand for its tuples, lent.
     pub fn numbers(&self) -> (&Symbols, &[Rows])
         ensures tuples { tuples_in result.0.now result.1.now ≡ self.now }
-        ensures texts { Each result.1.now (λ t. Each t.rows (AreTexts result.0.now)) }
+        ensures texts { Each result.1.now (λ t. Each t.rows (AllTexts result.0.now)) }
     {
         (&self.symbols, &self.tables)
     }

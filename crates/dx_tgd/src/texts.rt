@@ -6,7 +6,7 @@ ghost use Rattle.dx_model.specs.Matches.{rows_of_matches};
 ghost use Rattle.dx_instance.specs.Cells.{NumbersAscend};
 ghost use Rattle.dx_instance.specs.Numbers.{ValuesAscend};
 ghost use Rattle.dx_instance.specs.Ranks.{text_of_value};
-ghost use Rattle.dx_joins.specs.Shown.{AreTexts, texts_of};
+ghost use Rattle.dx_joins.specs.Shown.{AllTexts, texts_of};
 ghost use Rattle.dx_tgd.specs.Texts.{tuples_in};
 
 use dx_base::{Items, Text};
@@ -31,7 +31,7 @@ fn push_texts(
     symbols: &Symbols,
     texts: &mut Vec<Text>,
 ) -> Result<(), AllocError>
-    requires { AreTexts symbols.now row.now }
+    requires { AllTexts symbols.now row.now }
     ensures { OnOk result (texts.new.items ≡ texts.old.items ++ texts_of symbols.now row.now) }
 {
     for number in row {
@@ -46,7 +46,7 @@ fn push_texts(
 ///
 /// `AllocError` if there is no memory.
 pub fn places_of_rows(alloc: Global, rows: &Rows, symbols: &Symbols) -> Result<Places, AllocError>
-    requires { Each rows.now.rows (AreTexts symbols.now) }
+    requires { Each rows.now.rows (AllTexts symbols.now) }
     ensures exact { IfOk result (λ p. p.tuples ≡ map (texts_of symbols.now) rows.now.rows) }
     ensures ascend { IfOk result (λ p. ValuesAscend symbols.now → NumbersAscend rows.now.rows → TuplesAscend p.tuples) }
 {
@@ -67,7 +67,7 @@ pub fn places_of_rows(alloc: Global, rows: &Rows, symbols: &Symbols) -> Result<P
 ///
 /// `AllocError` if there is no memory.
 pub fn matches_of(alloc: Global, tables: &[Rows], symbols: &Symbols) -> Result<Matches, AllocError>
-    requires texts { Each tables.now (λ t. Each t.rows (AreTexts symbols.now)) }
+    requires texts { Each tables.now (λ t. Each t.rows (AllTexts symbols.now)) }
     ensures { IfOk result (λ m. rows_of_matches m ≡ tuples_in symbols.now tables.now) }
 {
     let mut rules = Items::new(alloc);

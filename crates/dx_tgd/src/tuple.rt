@@ -1,6 +1,6 @@
 // A tuple of a rule, lent.
 ghost use Rattle.std.specs.Prelude.{◌≡◌, ◌<◌, [], length, slice_index_or};
-ghost use Rattle.dx_joins.specs.Shown.{AreTexts, texts_of};
+ghost use Rattle.dx_joins.specs.Shown.{AllTexts, texts_of};
 
 use dx_base::Text;
 use dx_instance::{Symbols, Value};
@@ -15,19 +15,19 @@ pub struct Tuple<'a> {
 
 impl<'a> Model for Tuple<'a> {
     ghost use Rattle.std.specs.Prelude.{ℕ, List};
-    ghost use Rattle.dx_joins.specs.Shown.{AreTexts, texts_of};
+    ghost use Rattle.dx_joins.specs.Shown.{AllTexts, texts_of};
 
     ghost Value = { List (List ℕ) };
 
     ghost view = { λ t. texts_of t.symbols.now t.row.now };
 
-    ghost invariant = { λ t. AreTexts t.symbols.now t.row.now };
+    ghost invariant = { λ t. AllTexts t.symbols.now t.row.now };
 }
 
 impl<'a> Tuple<'a> {
     /// The tuple for which the row stands.
     pub(crate) fn new(symbols: &'a Symbols, row: &'a [u32]) -> Tuple<'a>
-        requires { AreTexts symbols.now row.now }
+        requires { AllTexts symbols.now row.now }
         ensures { result ≡ texts_of symbols.now row.now }
     {
         Tuple { symbols, row }

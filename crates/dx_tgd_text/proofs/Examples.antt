@@ -13,7 +13,7 @@ use Rattle.dx_schema_text.specs.declared.texts.AtomText.{AtomText}
 use Rattle.dx_schema_text.specs.declared.texts.DerivedText.{DerivedText}
 use Rattle.dx_schema_text.specs.declared.texts.RuleText.{RuleText}
 use Rattle.dx_funcs.specs.declared.conversion.Conversion.{Conversion}
-use Rattle.dx_tgd_text.specs.Laws.{AreOffered, IsWholeRule}
+use Rattle.dx_tgd_text.specs.Laws.{AllOffered, IsWholeRule}
 use Rattle.dx_tgd_text.specs.Reading.{rule_fault, rule_of_text, rules_fault, rules_of_texts, size_of}
 
 -- employees with a name and a place, persons with a name and a telephone
@@ -178,7 +178,7 @@ size : size_of (rule (x ∷ x ∷ []) (pair (x ∷ x ∷ []) ∷ []) (x ∷ Lite
 size = refl
 
 -- a conversion of a rule is listed with as many arguments as it takes
-other_arguments : ¬ AreOffered offer (record { premise = []; derived = record { code = 7; args = 0 ∷ [] } ∷ []; conclusion = [] })
+other_arguments : ¬ AllOffered offer (record { premise = []; derived = record { code = 7; args = 0 ∷ [] } ∷ []; conclusion = [] })
 other_arguments h = let l = h (record { code = 7; args = 0 ∷ [] }) (here refl) in takes_two l.0 l.1 l.3 where
   takes_two : (c : Conversion) → c ∈ offer → ¬ (c.arity ≡ 1)
   takes_two c m same = elim m [

@@ -10,7 +10,7 @@ use Rattle.dx_base.proofs.Firsts.{first_none, none_of, each_none}
 use Rattle.dx_model.specs.declared.rules.Cell.TheVariants.{Var, Ex}
 use Rattle.dx_model.specs.declared.rules.Atom.{Atom}
 use Rattle.dx_model.specs.declared.rules.Rule.{Rule}
-use Rattle.dx_model.specs.Tables.{table_of, AreWithin}
+use Rattle.dx_model.specs.Tables.{table_of, AllInside}
 use Rattle.dx_model.specs.Rules.{after_cell, after_cells, cells_of, existential_in, existentials}
 use Rattle.dx_model.specs.Solutions.{AtomFits}
 use Rattle.dx_model.specs.Fitting.{ByFirstAppearance, IsVariable, cell_variable, premise_variables, RuleFits}
@@ -33,7 +33,7 @@ use Rattle.dx_funcs.proofs.Named.{found_listed}
 use Rattle.dx_line_text.specs.Naming.{set_names, set_number, columns_in, code_of}
 use Rattle.dx_tgd_text.specs.Numbering.{new_name, new_names, text_cells}
 use Rattle.dx_tgd_text.specs.Reading.{names_of_premise, known_of, fresh_of, derived_names, atom_fault, atoms_fault, arg_fault, args_fault, derived_call_fault, derived_fault, derived_faults, rule_fault, rules_fault, cell_of, atom_of_text, atoms_of_texts, arg_of, derived_of_text, rule_of_text, rules_of_texts, RuleHasFewCells}
-use Rattle.dx_tgd_text.specs.Laws.{IsNameCell, IsWholeRule, AreOffered, ReadRulesFit, ReadRulesAreOffered}
+use Rattle.dx_tgd_text.specs.Laws.{IsNameCell, IsWholeRule, AllOffered, ReadRulesFit, ReadRulesAreOffered}
 use Rattle.dx_tgd_text.proofs.Appearing.{numbers_appear, among_appeared}
 
 -- ---- atoms
@@ -151,7 +151,7 @@ known_variable known fresh x (Name y place) e = go (is_among y known) refl e
 
 record GoodCall (list : List Conversion) (variables : List Text) (d : DerivedText) : Type 0 where
   offered : IsListed list (code_of (first_named list d.call)) (length (map (arg_of variables) d.args))
-  within : AreWithin (map (arg_of variables) d.args) (length variables)
+  within : AllInside (map (arg_of variables) d.args) (length variables)
 
 arg_within : (variables : List Text) (place : ℕ) (a : CellText) → arg_fault variables place a ≡ None → arg_of variables a < length variables
 arg_within variables place (Literal t) h = absurd cc
@@ -257,7 +257,7 @@ read_rules_fit source target list r w n h =
         some_premise = rw (length-map r.premise (atom_of_text source (names_of_premise r) [])) w.some_premise;
         plain = plain source target list r w;
         numbered = numbered source target list r w;
-        derived = λ e m. let k = from_map (derived_of_text list (names_of_premise r)) r.derived m in subst (λ d. AreWithin d.args (premise_variables (rule_of_text source target list r))) k.2 (subst (λ n. AreWithin (derived_of_text list (names_of_premise r) k.0).args n) (sym (count source target list r w)) (all_good list (names_of_premise r) (names_of_premise r) r.derived f.derived k.0 k.1).within);
+        derived = λ e m. let k = from_map (derived_of_text list (names_of_premise r)) r.derived m in subst (λ d. AllInside d.args (premise_variables (rule_of_text source target list r))) k.2 (subst (λ n. AllInside (derived_of_text list (names_of_premise r) k.0).args n) (sym (count source target list r w)) (all_good list (names_of_premise r) (names_of_premise r) r.derived f.derived k.0 k.1).within);
         some_conclusion = rw (length-map r.conclusion (atom_of_text target (known_of r) (fresh_of r))) w.some_conclusion;
         known = known source target list r w;
         existentials = conclusion_numbered source target list r w;
@@ -276,7 +276,7 @@ all_fit source target list rules read narrow is h whole x m =
     let l = from_map (rule_of_text source target list) rules (rw is at m) in
     subst (RuleFits (model_tables source) (model_tables target)) l.2 (read_rules_fit source target list l.0 (whole l.0 l.1) (narrow l.0 l.1) (each_none (rule_fault source target list) rules h l.0 l.1))
 
-pub all_offered : (source target : Forest) (list : List Conversion) (rules : List RuleText) (read : List Rule) → read ≡ rules_of_texts source target list rules → rules_fault source target list rules ≡ None → Each read (AreOffered list)
+pub all_offered : (source target : Forest) (list : List Conversion) (rules : List RuleText) (read : List Rule) → read ≡ rules_of_texts source target list rules → rules_fault source target list rules ≡ None → Each read (AllOffered list)
 all_offered source target list rules read is h x m =
     let l = from_map (rule_of_text source target list) rules (rw is at m) in
-    subst (AreOffered list) l.2 (read_rules_are_offered source target list l.0 (each_none (rule_fault source target list) rules h l.0 l.1))
+    subst (AllOffered list) l.2 (read_rules_are_offered source target list l.0 (each_none (rule_fault source target list) rules h l.0 l.1))

@@ -27,8 +27,8 @@ pub record IsWholeRule (r : RuleText) : Type 0 where
   pub some_conclusion : 0 < length r.conclusion
 
 -- the conversions of a rule are listed, each with as many arguments as it takes
-abbrev pub AreOffered : List Conversion → Rule → Type 0
-AreOffered list d = Each d.derived (λ e. IsListed list e.code (length e.args))
+abbrev pub AllOffered : List Conversion → Rule → Type 0
+AllOffered list d = Each d.derived (λ e. IsListed list e.code (length e.args))
 
 -- the rule of a text without a fault fits the schemas
 abbrev pub ReadRulesFit : Type 0
@@ -41,7 +41,7 @@ ReadRulesFit =
 abbrev pub ReadRulesAreOffered : Type 0
 ReadRulesAreOffered =
     (source target : Forest) (list : List Conversion) (r : RuleText)
-    → rule_fault source target list r ≡ None → AreOffered list (rule_of_text source target list r)
+    → rule_fault source target list r ≡ None → AllOffered list (rule_of_text source target list r)
 
 -- the rules of a mapping text are as the grammar has them,
 -- with no more cells and derived variables than the text has bytes

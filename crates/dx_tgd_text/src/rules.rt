@@ -6,7 +6,7 @@ ghost use Rattle.dx_schema.specs.Tables.{model_tables};
 ghost use Rattle.dx_funcs.specs.Serving.{offered};
 ghost use Rattle.dx_tokens.specs.declared.faults.TextFault.TheVariants.{Memory};
 ghost use Rattle.dx_line_text.specs.Answers.{ReadsOrMemory};
-ghost use Rattle.dx_tgd_text.specs.Laws.{AreOffered, IsWholeRule};
+ghost use Rattle.dx_tgd_text.specs.Laws.{AllOffered, IsWholeRule};
 ghost use Rattle.dx_tgd_text.specs.Reading.{RuleHasFewCells, rule_fault, rule_of_text, rules_fault, rules_of_texts};
 
 use crate::atoms::read_atoms;
@@ -77,7 +77,7 @@ where
     ensures fault { IfErr result (λ e. (e ≡ Memory) ⊎ (rules_fault source.now target.now (offered host.now) rules.now ≡ Some e)) }
     ensures fit { IfOk result (λ ds. Each rules.now IsWholeRule
         → Each ds.items (RuleFits (model_tables source.now) (model_tables target.now))) }
-    ensures listed { IfOk result (λ ds. Each ds.items (AreOffered (offered host.now))) }
+    ensures listed { IfOk result (λ ds. Each ds.items (AllOffered (offered host.now))) }
 {
     let mut read = Vec::new(alloc);
     for rule in rules {

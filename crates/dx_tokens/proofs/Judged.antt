@@ -24,14 +24,14 @@ seen U D S (TooDeep p) h = inr (inl (p, h, refl))
 seen U D S Memory h = absurd h
 
 -- each way to be at fault has one place, and no two go together
-pub record AreApart (U D : ℕ → Type 0) (S : ℕ → TextKind → Type 0) : Type 0 where
+pub record KeptApart (U D : ℕ → Type 0) (S : ℕ → TextKind → Type 0) : Type 0 where
   pub unexpected : (p q : ℕ) → U p → U q → p ≡ q
   pub deeper : (p q : ℕ) → D p → D q → p ≡ q
   pub stopped : (p q : ℕ) (k l : TextKind) → S p k → S q l → At p k ≡ At q l
   pub not_both : (p q : ℕ) → U p → ¬ (D q)
   pub not_stopped : (p q : ℕ) (k : TextKind) → U p ⊎ D p → ¬ (S q k)
 
-pub one_fault_by : (U D : ℕ → Type 0) (S : ℕ → TextKind → Type 0) → AreApart U D S → (e f : TextFault) → IsFaultBy U D S e → IsFaultBy U D S f → e ≡ f
+pub one_fault_by : (U D : ℕ → Type 0) (S : ℕ → TextKind → Type 0) → KeptApart U D S → (e f : TextFault) → IsFaultBy U D S e → IsFaultBy U D S f → e ≡ f
 one_fault_by U D S apart e f a b = both (seen U D S e a) (seen U D S f b) where
   both : Seen U D S e → Seen U D S f → e ≡ f
   both (inl x) (inl y) = x.2 ∙ ap (λ p. At p Expected) (apart.unexpected x.0 y.0 x.1 y.1) ∙ sym y.2

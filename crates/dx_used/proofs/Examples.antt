@@ -8,8 +8,8 @@ use Rattle.dx_model.specs.declared.rules.Cell.TheVariants.{Var, Lit}
 use Rattle.dx_model.specs.declared.rules.Atom.{Atom}
 use Rattle.dx_model.specs.declared.rules.Rule.{Rule}
 use Rattle.dx_lines.specs.declared.line.Condition.{Condition}
-use Rattle.dx_used.specs.Used.{times, mentions, IsIdle, AreIdle, AgreeOnUsed, AsksOfValue, IsUsedBy, IsUsed, HaveWidths, blanked, fact_blanked}
-use Rattle.dx_used.specs.Named.{AreExact, IsNamed, ReadNamed}
+use Rattle.dx_used.specs.Used.{times, mentions, IsIdle, CellsIdle, AgreeOnUsed, AsksOfValue, IsUsedBy, IsUsed, HaveWidths, blanked, fact_blanked}
+use Rattle.dx_used.specs.Named.{UsesExactly, IsNamed, ReadNamed}
 use Rattle.dx_used.specs.Passing.{Passes, passing}
 
 abbrev first : Atom
@@ -41,7 +41,7 @@ mentioned_once = refl
 joined_twice : times 2 (mentions rule) ≡ 2
 joined_twice = refl
 
-second_is_idle : AreIdle rule (true ∷ false ∷ true ∷ []) (Var 0 ∷ Var 1 ∷ Var 2 ∷ [])
+second_is_idle : CellsIdle rule (true ∷ false ∷ true ∷ []) (Var 0 ∷ Var 1 ∷ Var 2 ∷ [])
 second_is_idle = ((1, refl, refl), tt)
 
 second_is_blank : (a b c : List ℕ) → blanked (true ∷ false ∷ true ∷ []) (Const a ∷ Const b ∷ Const c ∷ []) ≡ Const a ∷ Const [] ∷ Const c ∷ []
@@ -118,10 +118,10 @@ no_table_is_left_out e = absurd (cc e)
 no_column_is_left_out : ¬ HaveWidths (3 ∷ 1 ∷ []) ((true ∷ false ∷ []) ∷ (true ∷ []) ∷ [])
 no_column_is_left_out e = absurd (cc e)
 
-a_mark_too_few : ¬ AreExact (rule ∷ other ∷ []) [] ((true ∷ false ∷ true ∷ []) ∷ (true ∷ []) ∷ [])
+a_mark_too_few : ¬ UsesExactly (rule ∷ other ∷ []) [] ((true ∷ false ∷ true ∷ []) ∷ (true ∷ []) ∷ [])
 a_mark_too_few e = absurd (cc ((e 0 1 (omega arith)).1 (inl used_by_the_last)))
 
-a_mark_too_many : ¬ AreExact (rule ∷ []) [] ((true ∷ true ∷ true ∷ []) ∷ (true ∷ []) ∷ [])
+a_mark_too_many : ¬ UsesExactly (rule ∷ []) [] ((true ∷ true ∷ true ∷ []) ∷ (true ∷ []) ∷ [])
 a_mark_too_many e = elim ((e 0 1 (omega arith)).0 refl) [ inl u ↦ used_by_none u | inr n ↦ elim n.1 [ ] ]
 
 -- ---- conditions
@@ -141,7 +141,7 @@ named_though_not_used = (filled, here refl, refl, refl)
 a_named_column_without_mark : ¬ ReadNamed ((true ∷ false ∷ []) ∷ []) (filled ∷ [])
 a_named_column_without_mark r = absurd (cc (r filled (here refl)))
 
-a_named_mark_too_few : ¬ AreExact (rule ∷ []) (filled ∷ []) ((true ∷ false ∷ true ∷ []) ∷ (true ∷ []) ∷ [])
+a_named_mark_too_few : ¬ UsesExactly (rule ∷ []) (filled ∷ []) ((true ∷ false ∷ true ∷ []) ∷ (true ∷ []) ∷ [])
 a_named_mark_too_few e = absurd (cc ((e 0 1 (omega arith)).1 (inr named_though_not_used)))
 
 -- the rows that are filled there pass, and rows of other tables

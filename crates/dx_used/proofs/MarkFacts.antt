@@ -16,8 +16,8 @@ use Rattle.dx_model.specs.Rules.{cells_of}
 use Rattle.dx_model.specs.Fitting.{IsRule, premise_variables, cell_variable}
 use Rattle.dx_model.proofs.Frozen.{few_in_cells, few_numbered}
 use Rattle.dx_model.proofs.RowsExist.{below_after}
-use Rattle.dx_used.specs.Used.{times, mentions, IsIdle, AreIdle, AsksOfValue, IsUsedBy, IsUsed, HaveWidths, UsesOnly, Marks, marks_at}
-use Rattle.dx_used.specs.Counting.{up_to_two, CountsCells, CellHasPlace, KeepMarks, UsesOnlyOf, AreNewWhere, AreUsed}
+use Rattle.dx_used.specs.Used.{times, mentions, IsIdle, CellsIdle, AsksOfValue, IsUsedBy, IsUsed, HaveWidths, UsesOnly, Marks, marks_at}
+use Rattle.dx_used.specs.Counting.{up_to_two, CountsCells, CellHasPlace, KeepMarks, UsesOnlyOf, NewOnlyWhere, MarksUsed}
 use Rattle.dx_used.proofs.UsedLaws.{times-append}
 
 -- ---- counts
@@ -171,7 +171,7 @@ asks_in d (x ∷ cells) zero c h e n = subst (λ (b : Cell). ¬ IsIdle d b) e n
 asks_in d (x ∷ cells) (suc i) c h e n = asks_in d cells i c (omega (arith, h)) e n
 
 -- what asks something stands in no column without a mark
-asks_not : (d : Rule) (marks : List Bool) (cells : List Cell) (i : ℕ) → i < length marks → get_or marks i false ≡ false → AreIdle d marks cells → ¬ AsksOfValue d cells i
+asks_not : (d : Rule) (marks : List Bool) (cells : List Cell) (i : ℕ) → i < length marks → get_or marks i false ≡ false → CellsIdle d marks cells → ¬ AsksOfValue d cells i
 asks_not d [] cells i l e a w = absurd (omega (arith, l))
 asks_not d (u ∷ marks) [] i l e a w = w
 asks_not d (true ∷ marks) (c ∷ cells) zero l e a w = absurd (cc e)
@@ -187,14 +187,14 @@ true_false e = absurd (cc e)
 below_but : (i n : ℕ) → i < n + 1 → ¬ (i ≡ n) → i < n
 below_but i n b o = elim (cases_order i n) [ inl e ↦ absurd (o e) | inr c ↦ elim c [ inl l ↦ l | inr g ↦ absurd (omega (arith, g, b)) ] ]
 
-idle_by_places : (d : Rule) (marks : List Bool) (cells : List Cell) → ((i : ℕ) → i < length cells → get_or marks i true ≡ false → IsIdle d (get_or cells i (Lit []))) → AreIdle d marks cells
+idle_by_places : (d : Rule) (marks : List Bool) (cells : List Cell) → ((i : ℕ) → i < length cells → get_or marks i true ≡ false → IsIdle d (get_or cells i (Lit []))) → CellsIdle d marks cells
 idle_by_places d [] cells h = tt
 idle_by_places d (u ∷ marks) [] h = tt
 idle_by_places d (true ∷ marks) (c ∷ cells) h = idle_by_places d marks cells (λ i b e. h (suc i) (omega (arith, b)) e)
 idle_by_places d (false ∷ marks) (c ∷ cells) h = (h 0 (omega arith) refl, idle_by_places d marks cells (λ i b e. h (suc i) (omega (arith, b)) e))
 
 pub all_idle : (d : Rule) (marks : List Bool) (cells : List Cell) (n : ℕ) → length cells ≤ n → ((i : ℕ) → i < n → get_or marks i true ≡ false → IsIdle d (get_or cells i (Lit [])))
-    → AreIdle d marks cells
+    → CellsIdle d marks cells
 all_idle d marks cells n l h = idle_by_places d marks cells (λ i b e. h i (omega (arith, l, b)) e)
 
 -- the cell that a loop gives
@@ -237,7 +237,7 @@ keep_set marks n h i e = elim (cases_eq i n) [
   | inr o ↦ sym (get_or-set_other marks n i true true o) ∙ e
 ]
 
-idle_kept : (d : Rule) (old new : List Bool) (cells : List Cell) → KeepMarks old new → AreIdle d old cells → AreIdle d new cells
+idle_kept : (d : Rule) (old new : List Bool) (cells : List Cell) → KeepMarks old new → CellsIdle d old cells → CellsIdle d new cells
 idle_kept d old [] cells k a = tt
 idle_kept d old (v ∷ new) [] k a = tt
 idle_kept d [] (true ∷ new) (c ∷ cells) k a = idle_kept d [] new cells (λ i e. k (suc i) e) tt
@@ -250,8 +250,8 @@ idle_kept d (false ∷ old) (false ∷ new) (c ∷ cells) k a = (a.0, idle_kept 
 pub only_kept : (table : ℕ) (old new : List Bool) (d : Rule) → KeepMarks old new → UsesOnlyOf table old d → UsesOnlyOf table new d
 only_kept table old new d k u a m e = idle_kept d old new a.cells k (u a m e)
 
-atoms_kept : (table : ℕ) (old new : List Bool) (d : Rule) (atoms : List Atom) → KeepMarks old new → Each atoms (λ a. a.table ≡ table → AreIdle d old a.cells)
-    → Each atoms (λ a. a.table ≡ table → AreIdle d new a.cells)
+atoms_kept : (table : ℕ) (old new : List Bool) (d : Rule) (atoms : List Atom) → KeepMarks old new → Each atoms (λ a. a.table ≡ table → CellsIdle d old a.cells)
+    → Each atoms (λ a. a.table ≡ table → CellsIdle d new a.cells)
 atoms_kept table old new d atoms k u a m e = idle_kept d old new a.cells k (u a m e)
 
 -- a rule more, or an atom more, as a loop gives it
@@ -261,16 +261,16 @@ rule_more table rules old new i d h e all k u =
     each_more (UsesOnlyOf table new) rules i d h e (λ r m. only_kept table old new r k (all r m)) u
 
 pub atom_more : (table : ℕ) (d : Rule) (atoms : List Atom) (old new : List Bool) (i : ℕ) (a : Atom) → atoms ≡ d.premise → i < length atoms → a ≡ get_or atoms i a
-    → Each (take i d.premise) (λ b. b.table ≡ table → AreIdle d old b.cells) → KeepMarks old new → (a.table ≡ table → AreIdle d new a.cells)
-    → Each (take (i + 1) d.premise) (λ b. b.table ≡ table → AreIdle d new b.cells)
+    → Each (take i d.premise) (λ b. b.table ≡ table → CellsIdle d old b.cells) → KeepMarks old new → (a.table ≡ table → CellsIdle d new a.cells)
+    → Each (take (i + 1) d.premise) (λ b. b.table ≡ table → CellsIdle d new b.cells)
 atom_more table d atoms old new i a s h e all k u =
-    each_more (λ b. b.table ≡ table → AreIdle d new b.cells) d.premise i a (subst (λ bs. i < length bs) s h) (subst (λ bs. a ≡ get_or bs i a) s e)
+    each_more (λ b. b.table ≡ table → CellsIdle d new b.cells) d.premise i a (subst (λ bs. i < length bs) s h) (subst (λ bs. a ≡ get_or bs i a) s e)
     (atoms_kept table old new d (take i d.premise) k all) u
 
 -- what is lent is what it is lent of
 pub idle_lent : (d : Rule) (marks : List Bool) (counts lent : List ℕ) (cells given : List Cell) → lent ≡ counts → given ≡ cells → CountsCells (mentions d) counts
-    → ((e : Rule) → CountsCells (mentions e) lent → AreIdle e marks given) → AreIdle d marks cells
-idle_lent d marks counts lent cells given l g c h = subst (λ cs. AreIdle d marks cs) g (h d (subst (λ ns. CountsCells (mentions d) ns) (sym l) c))
+    → ((e : Rule) → CountsCells (mentions e) lent → CellsIdle e marks given) → CellsIdle d marks cells
+idle_lent d marks counts lent cells given l g c h = subst (λ cs. CellsIdle d marks cs) g (h d (subst (λ ns. CountsCells (mentions d) ns) (sym l) c))
 
 pub no_change : (marks : List Bool) → KeepMarks marks marks
 no_change marks i e = e
@@ -311,35 +311,35 @@ order x y = elim (cases_order x y) [ inl e ↦ inr (omega (arith, e)) | inr o �
 pub all_tables : (rules : List Rule) (used : List (List Bool)) → ((t : ℕ) → t < length used → Each rules (UsesOnlyOf t (marks_at used t))) → Each rules (UsesOnly used)
 all_tables rules used all d m a k = elim (order a.table (length used)) [
   | inl b ↦ all a.table b d m a k refl
-  | inr o ↦ subst (λ ms. AreIdle d ms a.cells) (sym (none_there used a.table o)) tt
+  | inr o ↦ subst (λ ms. CellsIdle d ms a.cells) (sym (none_there used a.table o)) tt
 ]
 
 -- ---- marks that are new
 
-pub new_none : (P : ℕ → Type 0) (marks : List Bool) → AreNewWhere P marks marks
+pub new_none : (P : ℕ → Type 0) (marks : List Bool) → NewOnlyWhere P marks marks
 new_none P marks i e = inl e
 
-pub new_one : (P : ℕ → Type 0) (old marks : List Bool) (n : ℕ) → P n → AreNewWhere P old marks → AreNewWhere P old (slice_set marks n true)
+pub new_one : (P : ℕ → Type 0) (old marks : List Bool) (n : ℕ) → P n → NewOnlyWhere P old marks → NewOnlyWhere P old (slice_set marks n true)
 new_one P old marks n p h i e = elim (cases_eq i n) [
   | inl k ↦ inr (subst P (sym k) p)
   | inr o ↦ h i (sym (get_or-set_other marks n i true false o) ∙ e)
 ]
 
-pub new_trans : (P : ℕ → Type 0) (a b c : List Bool) → AreNewWhere P a b → AreNewWhere P b c → AreNewWhere P a c
+pub new_trans : (P : ℕ → Type 0) (a b c : List Bool) → NewOnlyWhere P a b → NewOnlyWhere P b c → NewOnlyWhere P a c
 new_trans P a b c k l i e = elim (l i e) [ inl m ↦ k i m | inr p ↦ inr p ]
 
 -- those of an atom's cells are those of its rule
 pub new_by_atom : (d : Rule) (table : ℕ) (atoms : List Atom) (i : ℕ) (a : Atom) (counts lent : List ℕ) (given : List Cell) (old new : List Bool)
     → atoms ≡ d.premise → i < length atoms → a ≡ get_or atoms i a → a.table ≡ table → lent ≡ counts → given ≡ a.cells
     → CountsCells (mentions d) counts → length counts ≡ min (length (cells_of d.premise)) (2 ^ 64 - 1) → IsRule d
-    → ((e : Rule) → CountsCells (mentions e) lent → Each given (CellHasPlace (length lent)) → AreNewWhere (AsksOfValue e given) old new) → AreNewWhere (IsUsedBy d table) old new
+    → ((e : Rule) → CountsCells (mentions e) lent → Each given (CellHasPlace (length lent)) → NewOnlyWhere (AsksOfValue e given) old new) → NewOnlyWhere (IsUsedBy d table) old new
 new_by_atom d table atoms i a counts lent given old new s h e t l g k n r f j b =
     let m : a ∈ d.premise = subst (λ bs. a ∈ bs) s (item_in atoms i a h e) in
     let p : Each a.cells (CellHasPlace (length lent)) = have_places d a (length lent) r m (ap length l ∙ n) in
-    let q : AreNewWhere (AsksOfValue d given) old new = f d (subst (λ ns. CountsCells (mentions d) ns) (sym l) k) (subst (λ cs. Each cs (CellHasPlace (length lent))) (sym g) p) in
+    let q : NewOnlyWhere (AsksOfValue d given) old new = f d (subst (λ ns. CountsCells (mentions d) ns) (sym l) k) (subst (λ cs. Each cs (CellHasPlace (length lent))) (sym g) p) in
     elim (q j b) [ inl o ↦ inl o | inr w ↦ inr (a, m, t, subst (λ cs. AsksOfValue d cs j) g w) ]
 
-pub none_marked : (rules : List Rule) (table n : ℕ) (marks : List Bool) → (◌≡◌ {A = List Bool} marks (replicate n false)) → AreUsed rules table marks
+pub none_marked : (rules : List Rule) (table n : ℕ) (marks : List Bool) → (◌≡◌ {A = List Bool} marks (replicate n false)) → MarksUsed rules table marks
 none_marked rules table n marks e i k = true_false (sym k ∙ (ap (λ ms. get_or ms i false) e ∙ all_false n i))
   where
     all_false : (n i : ℕ) → ◌≡◌ {A = Bool} (get_or (replicate n false) i false) false
@@ -349,7 +349,7 @@ none_marked rules table n marks e i k = true_false (sym k ∙ (ap (λ ms. get_or
 
 -- a rule more, as a loop gives it
 pub used_more : (rules : List Rule) (table i : ℕ) (d : Rule) (old new : List Bool) → i < length rules → d ≡ get_or rules i d → Each rules IsRule
-    → AreUsed rules table old → (IsRule d → AreNewWhere (IsUsedBy d table) old new) → AreUsed rules table new
+    → MarksUsed rules table old → (IsRule d → NewOnlyWhere (IsUsedBy d table) old new) → MarksUsed rules table new
 used_more rules table i d old new h e r all n j k =
     let m : d ∈ rules = item_in rules i d h e in
     elim (n (r d m) j k) [ inl o ↦ all j o | inr w ↦ inr_used m w ]
@@ -388,7 +388,7 @@ used_marked rules used only table column h w = elim (cases_Bool (get_or (marks_a
   | inl t ↦ t
   | inr f ↦ absurd (
       asks_not w.0 (marks_at used table) w.2.0.cells column h f
-      (subst (λ t. AreIdle w.0 (marks_at used t) w.2.0.cells) w.2.2 (only w.0 w.1 w.2.0 w.2.1)) w.2.3)
+      (subst (λ t. CellsIdle w.0 (marks_at used t) w.2.0.cells) w.2.2 (only w.0 w.1 w.2.0 w.2.1)) w.2.3)
 ]
 
 pub none_wide : (widths : List ℕ) (used : Marks) → used ≡ [] → HaveWidths (take 0 widths) used

@@ -6,8 +6,8 @@ use Rattle.dx_base.proofs.Members.{item_in}
 use Rattle.dx_model.specs.declared.rules.Rule.{Rule}
 use Rattle.dx_lines.specs.declared.line.Condition.{Condition}
 use Rattle.dx_used.specs.Used.{Marks, UsesOnly, marks_at}
-use Rattle.dx_used.specs.Named.{AreExact, IsNamed, IsRead, ReadNamed}
-use Rattle.dx_used.specs.Counting.{AreNewWhere, AreRead, AreUsed, KeepMarks, ReadsNamed, UsesOnlyOf}
+use Rattle.dx_used.specs.Named.{UsesExactly, IsNamed, IsRead, ReadNamed}
+use Rattle.dx_used.specs.Counting.{NewOnlyWhere, MarksRead, MarksUsed, KeepMarks, ReadsNamed, UsesOnlyOf}
 use Rattle.dx_used.proofs.MarkFacts.{none_there, only_kept, order, true_false, used_marked}
 
 -- ---- one column
@@ -44,7 +44,7 @@ named_more conditions table old new i c h e all k r =
 
 -- a mark more is that of a column that the condition names
 pub new_by_condition : (conditions : List Condition) (table i : ℕ) (c : Condition) (old now new : List Bool) → i < length conditions → c ≡ get_or conditions i c → c.place.table ≡ table
-    → AreNewWhere (IsNamed conditions table) old now → AreNewWhere (λ j. j ≡ c.place.column) now new → AreNewWhere (IsNamed conditions table) old new
+    → NewOnlyWhere (IsNamed conditions table) old now → NewOnlyWhere (λ j. j ≡ c.place.column) now new → NewOnlyWhere (IsNamed conditions table) old new
 new_by_condition conditions table i c old now new h e t all more j b = elim (more j b) [
   | inl o ↦ all j o
   | inr is ↦ inr (c, item_in conditions i c h e, t, sym is)
@@ -52,8 +52,8 @@ new_by_condition conditions table i c old now new h e t all more j b = elim (mor
 
 -- ---- the marks of a table
 
-pub read_by_both : (rules : List Rule) (conditions : List Condition) (table : ℕ) (old new : List Bool) → AreUsed rules table old → AreNewWhere (IsNamed conditions table) old new
-    → AreRead rules conditions table new
+pub read_by_both : (rules : List Rule) (conditions : List Condition) (table : ℕ) (old new : List Bool) → MarksUsed rules table old → NewOnlyWhere (IsNamed conditions table) old new
+    → MarksRead rules conditions table new
 read_by_both rules conditions table old new all more i e = elim (more i e) [ inl o ↦ inl (all i o) | inr w ↦ inr w ]
 
 pub only_still : (rules : List Rule) (table : ℕ) (old new : List Bool) → KeepMarks old new → Each rules (UsesOnlyOf table old) → Each rules (UsesOnlyOf table new)
@@ -62,7 +62,7 @@ only_still rules table old new k all d m = only_kept table old new d k (all d m)
 -- ---- all tables
 
 -- of no table a mark is set
-pub none_read : (rules : List Rule) (conditions : List Condition) (used : Marks) (t : ℕ) → used ≡ [] → AreRead rules conditions t (marks_at used t)
+pub none_read : (rules : List Rule) (conditions : List Condition) (used : Marks) (t : ℕ) → used ≡ [] → MarksRead rules conditions t (marks_at used t)
 none_read rules conditions used t e i k = true_false (sym k ∙ ap (λ (us : Marks). get_or (marks_at us t) i false) e)
 
 pub all_named : (conditions : List Condition) (used : Marks) → ((t : ℕ) → t < length used → Each conditions (ReadsNamed t (marks_at used t))) → ReadNamed used conditions
@@ -73,7 +73,7 @@ all_named conditions used all c m = elim (order c.place.table (length used)) [
 
 -- a mark says exactly whether its column is read
 pub exact_marks : (rules : List Rule) (conditions : List Condition) (used : Marks) → Each rules (UsesOnly used) → ReadNamed used conditions
-    → ((t : ℕ) → AreRead rules conditions t (marks_at used t)) → AreExact rules conditions used
+    → ((t : ℕ) → MarksRead rules conditions t (marks_at used t)) → UsesExactly rules conditions used
 exact_marks rules conditions used only named all table column h = (all table column, marked)
   where
     of_condition : IsNamed conditions table column → get_or (marks_at used table) column false ≡ true

@@ -19,7 +19,7 @@ use Rattle.dx_model.specs.Rules.{cell_value, premise_fact, after_cells, cells_of
 use Rattle.dx_model.proofs.Canonical.{from_variables}
 use Rattle.dx_model.proofs.RowsExist.{below_after}
 use Rattle.dx_model.proofs.Universal.{said_same}
-use Rattle.dx_used.specs.Used.{times, arguments, mentions, AreIdle, Marks, marks_at, UsesOnly, blank, blanked, fact_blanked, AgreeOnUsed}
+use Rattle.dx_used.specs.Used.{times, arguments, mentions, CellsIdle, Marks, marks_at, UsesOnly, blank, blanked, fact_blanked, AgreeOnUsed}
 use Rattle.dx_used.specs.Laws.{SameRows, SameTargets, SameSolutions, SameUniversal}
 
 -- ---- how often a variable stands
@@ -63,7 +63,7 @@ Once (u ∷ used) [] all = Unit {0}
 Once (true ∷ used) (c ∷ cells) all = Once used cells all
 Once (false ∷ used) (c ∷ cells) all = ((x : ℕ) × (c ≡ Var x) × (times x all ≡ 1)) × Once used cells all
 
-once_idle : (d : Rule) (used : List Bool) (cells : List Cell) → AreIdle d used cells → Once used cells (mentions d)
+once_idle : (d : Rule) (used : List Bool) (cells : List Cell) → CellsIdle d used cells → Once used cells (mentions d)
 unfolding Once
 once_idle d [] cells i = tt
 once_idle d (u ∷ used) [] i = tt

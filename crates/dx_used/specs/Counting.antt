@@ -5,7 +5,7 @@ use Rattle.dx_model.specs.declared.rules.Cell.{Cell}
 use Rattle.dx_model.specs.declared.rules.Cell.TheVariants.{Var}
 use Rattle.dx_model.specs.declared.rules.Rule.{Rule}
 use Rattle.dx_lines.specs.declared.line.Condition.{Condition}
-use Rattle.dx_used.specs.Used.{AreIdle, IsUsed, times}
+use Rattle.dx_used.specs.Used.{CellsIdle, IsUsed, times}
 use Rattle.dx_used.specs.Named.{IsRead}
 
 -- none, one, or more
@@ -28,19 +28,19 @@ KeepMarks old new = (i : ℕ) → slice_index_or new i true ≡ false → slice_
 
 -- the rule uses no other columns of the table than these
 abbrev pub UsesOnlyOf : ℕ → List Bool → Rule → Type 0
-UsesOnlyOf table marks d = Each d.premise (λ a. a.table ≡ table → AreIdle d marks a.cells)
+UsesOnlyOf table marks d = Each d.premise (λ a. a.table ≡ table → CellsIdle d marks a.cells)
 
 -- a column that is marked was so before, or has this property
-abbrev pub AreNewWhere : (ℕ → Type 0) → List Bool → List Bool → Type 0
-AreNewWhere P old new = (i : ℕ) → slice_index_or new i false ≡ true → (slice_index_or old i false ≡ true) ⊎ P i
+abbrev pub NewOnlyWhere : (ℕ → Type 0) → List Bool → List Bool → Type 0
+NewOnlyWhere P old new = (i : ℕ) → slice_index_or new i false ≡ true → (slice_index_or old i false ≡ true) ⊎ P i
 
 -- each marked column of the table is used by some rule
-abbrev pub AreUsed : List Rule → ℕ → List Bool → Type 0
-AreUsed R table marks = (i : ℕ) → slice_index_or marks i false ≡ true → IsUsed R table i
+abbrev pub MarksUsed : List Rule → ℕ → List Bool → Type 0
+MarksUsed R table marks = (i : ℕ) → slice_index_or marks i false ≡ true → IsUsed R table i
 
 -- each marked column of the table is read
-abbrev pub AreRead : List Rule → List Condition → ℕ → List Bool → Type 0
-AreRead R conditions table marks = (i : ℕ) → slice_index_or marks i false ≡ true → IsRead R conditions table i
+abbrev pub MarksRead : List Rule → List Condition → ℕ → List Bool → Type 0
+MarksRead R conditions table marks = (i : ℕ) → slice_index_or marks i false ≡ true → IsRead R conditions table i
 
 -- the column that a condition names, if it is one of this table, is marked, or has no mark
 abbrev pub ReadsNamed : ℕ → List Bool → Condition → Type 0

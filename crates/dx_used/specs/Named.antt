@@ -21,7 +21,7 @@ abbrev pub IsRead : List Rule → List Condition → ℕ → ℕ → Type 0
 IsRead R conditions table column = IsUsed R table column ⊎ IsNamed conditions table column
 
 -- each mark says exactly whether its column is read
-abbrev pub AreExact : List Rule → List Condition → Marks → Type 0
-AreExact R conditions used =
+abbrev pub UsesExactly : List Rule → List Condition → Marks → Type 0
+UsesExactly R conditions used =
     (table column : ℕ) → column < length (marks_at used table)
     → (slice_index_or (marks_at used table) column false ≡ true) ↔ IsRead R conditions table column

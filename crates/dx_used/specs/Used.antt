@@ -32,11 +32,11 @@ abbrev pub IsIdle : Rule → Cell → Type 0
 IsIdle d c = (x : ℕ) × (c ≡ Var x) × (times x (mentions d) ≡ 1)
 
 -- the cells in columns that are not used are idle; a column without a mark is used
-abbrev pub AreIdle : Rule → List Bool → List Cell → Type 0
-AreIdle d [] cells = Unit {0}
-AreIdle d (u ∷ used) [] = Unit {0}
-AreIdle d (true ∷ used) (c ∷ cells) = AreIdle d used cells
-AreIdle d (false ∷ used) (c ∷ cells) = IsIdle d c × AreIdle d used cells
+abbrev pub CellsIdle : Rule → List Bool → List Cell → Type 0
+CellsIdle d [] cells = Unit {0}
+CellsIdle d (u ∷ used) [] = Unit {0}
+CellsIdle d (true ∷ used) (c ∷ cells) = CellsIdle d used cells
+CellsIdle d (false ∷ used) (c ∷ cells) = IsIdle d c × CellsIdle d used cells
 
 -- for each table a mark for each column: whether it is used
 abbrev pub Marks : Type 0
@@ -48,7 +48,7 @@ marks_at used table = slice_index_or used table []
 
 -- the rule uses no other columns than these
 abbrev pub UsesOnly : Marks → Rule → Type 0
-UsesOnly used d = Each d.premise (λ a. AreIdle d (marks_at used a.table) a.cells)
+UsesOnly used d = Each d.premise (λ a. CellsIdle d (marks_at used a.table) a.cells)
 
 -- of these cells of a rule, that in a column asks something of the value there: it is not idle
 abbrev pub AsksOfValue : Rule → List Cell → ℕ → Type 0

@@ -3,9 +3,9 @@ ghost use Rattle.std.specs.Prelude.{◌≡◌, true, IfOk, OnOk, length, slice_i
 ghost use Rattle.dx_base.specs.Members.{Each};
 ghost use Rattle.dx_model.specs.declared.rules.Rule.{Rule};
 ghost use Rattle.dx_model.specs.Fitting.{IsRule};
-ghost use Rattle.dx_used.specs.Used.{AreIdle, AsksOfValue, HaveWidths, IsUsedBy, UsesOnly, mentions};
-ghost use Rattle.dx_used.specs.Named.{AreExact, IsNamed, ReadNamed};
-ghost use Rattle.dx_used.specs.Counting.{AreNewWhere, AreRead, AreUsed, CountsCells, CellHasPlace, KeepMarks, ReadsNamed, UsesOnlyOf};
+ghost use Rattle.dx_used.specs.Used.{CellsIdle, AsksOfValue, HaveWidths, IsUsedBy, UsesOnly, mentions};
+ghost use Rattle.dx_used.specs.Named.{UsesExactly, IsNamed, ReadNamed};
+ghost use Rattle.dx_used.specs.Counting.{NewOnlyWhere, MarksRead, MarksUsed, CountsCells, CellHasPlace, KeepMarks, ReadsNamed, UsesOnlyOf};
 
 use crate::mentions::{is_idle, mentions_of};
 use dx_base::{Items, no_number_left};
@@ -15,9 +15,9 @@ use std::alloc::{AllocError, Global};
 
 // Marks each column whose cell asks something of the value there.
 fn mark_cells(cells: &[Cell], counts: &[u8], marks: &mut [bool])
-    ensures idle { (d : Rule) → CountsCells (mentions d) counts.now → AreIdle d marks.new cells.now }
+    ensures idle { (d : Rule) → CountsCells (mentions d) counts.now → CellsIdle d marks.new cells.now }
     ensures asks { (d : Rule) → CountsCells (mentions d) counts.now → Each cells.now (CellHasPlace (length counts.now))
-        → AreNewWhere (AsksOfValue d cells.now) marks.old marks.new }
+        → NewOnlyWhere (AsksOfValue d cells.now) marks.old marks.new }
     ensures keep { KeepMarks marks.old marks.new }
 {
     for column in 0..cells.len() {
@@ -30,7 +30,7 @@ fn mark_cells(cells: &[Cell], counts: &[u8], marks: &mut [bool])
 // Marks the columns of a table that a rule uses.
 fn mark_rule(alloc: Global, rule: &Rule, table: u32, marks: &mut [bool]) -> Result<(), AllocError>
     ensures only { OnOk result (UsesOnlyOf table marks.new rule.now) }
-    ensures used { OnOk result (IsRule rule.now → AreNewWhere (IsUsedBy rule.now table) marks.old marks.new) }
+    ensures used { OnOk result (IsRule rule.now → NewOnlyWhere (IsUsedBy rule.now table) marks.old marks.new) }
     ensures keep { KeepMarks marks.old marks.new }
 {
     let counts = mentions_of(alloc, rule)?;
@@ -51,7 +51,7 @@ fn marks_by_rules(
 ) -> Result<Vec<bool>, AllocError>
     ensures width { IfOk result (λ marks. length marks.items ≡ width) }
     ensures only { IfOk result (λ marks. Each rules.now (UsesOnlyOf table marks.items)) }
-    ensures used { IfOk result (λ marks. Each rules.now IsRule → AreUsed rules.now table marks.items) }
+    ensures used { IfOk result (λ marks. Each rules.now IsRule → MarksUsed rules.now table marks.items) }
 {
     let mut marks = vec![in alloc; false; width as usize]?;
     for rule in rules {
@@ -63,7 +63,7 @@ fn marks_by_rules(
 // Marks a column, if there is a mark for it.
 fn mark_column(column: u32, marks: &mut [bool])
     ensures marked { slice_index_or marks.new column true ≡ true }
-    ensures new { AreNewWhere (λ i. i ≡ column) marks.old marks.new }
+    ensures new { NewOnlyWhere (λ i. i ≡ column) marks.old marks.new }
     ensures keep { KeepMarks marks.old marks.new }
 {
     let place = column as usize;
@@ -75,7 +75,7 @@ fn mark_column(column: u32, marks: &mut [bool])
 // Marks the columns of a table that conditions name.
 fn mark_named(conditions: &[Condition], table: u32, marks: &mut [bool])
     ensures named { Each conditions.now (ReadsNamed table marks.new) }
-    ensures new { AreNewWhere (IsNamed conditions.now table) marks.old marks.new }
+    ensures new { NewOnlyWhere (IsNamed conditions.now table) marks.old marks.new }
     ensures keep { KeepMarks marks.old marks.new }
 {
     for condition in conditions {
@@ -96,7 +96,7 @@ fn marks_of(
     ensures width { IfOk result (λ marks. length marks.items ≡ width) }
     ensures only { IfOk result (λ marks. Each rules.now (UsesOnlyOf table marks.items)) }
     ensures named { IfOk result (λ marks. Each conditions.now (ReadsNamed table marks.items)) }
-    ensures read { IfOk result (λ marks. Each rules.now IsRule → AreRead rules.now conditions.now table marks.items) }
+    ensures read { IfOk result (λ marks. Each rules.now IsRule → MarksRead rules.now conditions.now table marks.items) }
 {
     let mut marks = marks_by_rules(alloc, rules, table, width)?;
     mark_named(conditions, table, &mut marks);
@@ -119,7 +119,7 @@ pub fn used_columns(
     ensures widths { IfOk result (λ used. HaveWidths widths.now used.items) }
     ensures only { IfOk result (λ used. Each rules.now (UsesOnly used.items)) }
     ensures named { IfOk result (λ used. ReadNamed used.items conditions.now) }
-    ensures exact { IfOk result (λ used. Each rules.now IsRule → AreExact rules.now conditions.now used.items) }
+    ensures exact { IfOk result (λ used. Each rules.now IsRule → UsesExactly rules.now conditions.now used.items) }
 {
     let Ok(count) = u32::try_from(widths.len()) else {
         return Err(no_number_left(widths.len() as u64));

@@ -13,7 +13,7 @@ use Rattle.dx_logical.specs.Laws.{HasNoOptional}
 use Rattle.dx_schema_text.specs.declared.texts.MappingText.{MappingText}
 use Rattle.dx_schema_text.specs.Grammar.{since_three}
 use Rattle.dx_schema_text.specs.Texts.{IsMappingText}
-use Rattle.dx_schema_text.specs.Print.{IsKnownVersion, the_first, the_second, the_third, AreOfVersion}
+use Rattle.dx_schema_text.specs.Print.{IsKnownVersion, the_first, the_second, the_third, FitsVersion}
 use Rattle.dx_schema_text.proofs.SpelledWords.{said_is_writable}
 use Rattle.dx_schema_text.proofs.Versions.{said_is_of_version}
 use Rattle.dx_version_laws.specs.Laws.{HasNoDependency, HasKeysAlone, FirstVersionIsPlain, EarlierHaveKeysAlone}
@@ -28,7 +28,7 @@ none_optional [] h = refl
 none_optional (r ∷ refs) h = rw (not_optional r.optional (h r (here refl))) (none_optional refs (λ x m. h x (there m)))
 
 -- so no set of a forest that a text of version 1 can say has an optional ref
-placed_plain : (p : Option ℕ) (n : ℕ) (f : Forest) (s : NumberedSet) → AreOfVersion 1 f → s ∈ numbered_sets p n f → optional_refs s.label.refs ≡ []
+placed_plain : (p : Option ℕ) (n : ℕ) (f : Forest) (s : NumberedSet) → FitsVersion 1 f → s ∈ numbered_sets p n f → optional_refs s.label.refs ≡ []
 placed_plain p n none s h mem = elim mem [ ]
 placed_plain p n (set l i r) s h (here e) = subst (λ (x : NumberedSet). optional_refs x.label.refs ≡ []) e (none_optional l.refs h.0.refs)
 placed_plain p n (set l i r) s h (there mem) =
@@ -43,7 +43,7 @@ at_place P [] d k p h = p
 at_place P (x ∷ xs) d zero p h = h x (here refl)
 at_place P (x ∷ xs) d (suc k) p h = at_place P xs d k p (λ y m. h y (there m))
 
-pub no_optional : (f : Forest) → AreOfVersion 1 f → HasNoOptional (model_tables f)
+pub no_optional : (f : Forest) → FitsVersion 1 f → HasNoOptional (model_tables f)
 no_optional f h t = at_place (λ (x : Table). x.optional ≡ []) (model_tables f) _ t refl (λ x m.
     let a = from_map as_numbers (tables_of f) m in
     let b = from_map (table_in (sets_of f)) (sets_of f) a.1 in
@@ -56,7 +56,7 @@ none_said version [] earlier h = refl
 none_said version (d ∷ ds) earlier h = absurd (false≢true (sym earlier ∙ h d (here refl)))
 
 -- so no set of a forest that a text of an earlier version can say has a dependency
-placed_keyed : (version : ℕ) (p : Option ℕ) (n : ℕ) (f : Forest) (s : NumberedSet) → since_three version ≡ false → AreOfVersion version f → s ∈ numbered_sets p n f → s.label.deps ≡ []
+placed_keyed : (version : ℕ) (p : Option ℕ) (n : ℕ) (f : Forest) (s : NumberedSet) → since_three version ≡ false → FitsVersion version f → s ∈ numbered_sets p n f → s.label.deps ≡ []
 placed_keyed version p n none s earlier h mem = elim mem [ ]
 placed_keyed version p n (set l i r) s earlier h (here e) = subst (λ (x : NumberedSet). x.label.deps ≡ []) e (none_said version l.deps earlier h.0.deps)
 placed_keyed version p n (set l i r) s earlier h (there mem) =
@@ -65,7 +65,7 @@ placed_keyed version p n (set l i r) s earlier h (there mem) =
       | inr b ↦ placed_keyed version p (suc (n + count i)) r s earlier h.2 b
     ]
 
-no_dependency : (version : ℕ) (f : Forest) → since_three version ≡ false → AreOfVersion version f → HasNoDependency f
+no_dependency : (version : ℕ) (f : Forest) → since_three version ≡ false → FitsVersion version f → HasNoDependency f
 no_dependency version f earlier h t m =
     let b = from_map (table_in (sets_of f)) (sets_of f) m in
     rw (← b.2) (rw (placed_keyed version None 0 f b.0 earlier h b.1) refl)
@@ -87,8 +87,8 @@ pub first_version_is_plain : FirstVersionIsPlain
 first_version_is_plain text m is one =
     let w = said_is_writable text m is in
     record {
-      source = no_optional m.source (subst (λ v. AreOfVersion v m.source) one w.0.sayable);
-      target = no_optional m.target (subst (λ v. AreOfVersion v m.target) one w.1.sayable);
+      source = no_optional m.source (subst (λ v. FitsVersion v m.source) one w.0.sayable);
+      target = no_optional m.target (subst (λ v. FitsVersion v m.target) one w.1.sayable);
       conditions = (said_is_of_version text m is).1 (rw one refl);
       keys = keys_alone text m is (rw one refl);
     }

@@ -11,8 +11,8 @@ use Rattle.dx_lines.specs.declared.candidate.Pick.{Pick}
 use Rattle.dx_lines.specs.Ways.{is_of, variable_in, with_table, term_by, pick, put_in}
 
 -- more picks than are accepted
-abbrev pub AreTooMany : List Pick → Type 0
-AreTooMany picks = WAYS < length picks
+abbrev pub ExceedsWays : List Pick → Type 0
+ExceedsWays picks = WAYS < length picks
 
 -- the list with all these put in, one after another
 abbrev pub put_all : List Pick → List Pick → List Pick

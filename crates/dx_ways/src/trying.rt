@@ -3,7 +3,7 @@ ghost use Rattle.std.specs.Prelude.{◌≡◌, ◌≤◌, ◌<◌, ◌∷◌, If
 ghost use Rattle.dx_base.specs.Members.{behind};
 ghost use Rattle.dx_lines.specs.Ways.{pick, put_in};
 ghost use Rattle.dx_ways.specs.declared.fault.WaysFault.TheVariants.{TooMany};
-ghost use Rattle.dx_ways.specs.Tried.{AreTooMany, picks_by, put_all, tried};
+ghost use Rattle.dx_ways.specs.Tried.{ExceedsWays, picks_by, put_all, tried};
 
 use crate::fault::WaysFault;
 use crate::picks::{copy_term, pick_order};
@@ -68,7 +68,7 @@ fn add_term(
     requires { length found.old.items ≤ WAYS }
     ensures all { OnOk result (found.new.items ≡ put_all found.old.items (map (λ y. pick y term.now) variables.now)) }
     ensures few { OnOk result (length found.new.items ≤ WAYS) }
-    ensures many { IfErr result (λ e. e ≡ TooMany → AreTooMany (put_all found.old.items (map (λ y. pick y term.now) variables.now))) }
+    ensures many { IfErr result (λ e. e ≡ TooMany → ExceedsWays (put_all found.old.items (map (λ y. pick y term.now) variables.now))) }
 {
     for variable in variables {
         let pick = Pick {
@@ -92,7 +92,7 @@ fn add_picks(
     ensures all { OnOk result (found.new.items ≡ put_all found.old.items (picks_by source.now variables.now (behind choice.now))) }
     ensures few { OnOk result (length found.new.items ≤ WAYS) }
     ensures many { IfErr result (λ e. e ≡ TooMany
-        → AreTooMany (put_all found.old.items (picks_by source.now variables.now (behind choice.now)))) }
+        → ExceedsWays (put_all found.old.items (picks_by source.now variables.now (behind choice.now)))) }
 {
     match term_of(alloc, source, choice)? {
         None => Ok(()),
@@ -130,7 +130,7 @@ pub fn add_tried<'a>(
         ≡ put_all found.old.items (tried source.now variables.now (behind among.now) places.now (behind choice.now))) }
     ensures few { OnOk result (length found.new.items ≤ WAYS) }
     ensures many { IfErr result (λ e. e ≡ TooMany
-        → AreTooMany (put_all found.old.items (tried source.now variables.now (behind among.now) places.now (behind choice.now)))) }
+        → ExceedsWays (put_all found.old.items (tried source.now variables.now (behind among.now) places.now (behind choice.now)))) }
 {
     let Some((first, rest)) = places.split_first() else {
         return add_picks(alloc, source, variables, choice, found);

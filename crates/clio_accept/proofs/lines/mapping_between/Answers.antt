@@ -6,7 +6,7 @@ use Rattle.clio_accept.specs.declared.fault.AcceptFault.TheVariants.{Memory}
 use Rattle.clio_accept.specs.Mapping.{limit_refusal, text_refusal}
 use Rattle.clio_accept.specs.Accepting.{mapping_of, texts_between}
 use Rattle.clio_accept.proofs.Ruled.{between_fit}
-use Rattle.clio_accept.proofs.LineRules.{AreRead, all_rules, leaving_stops, limit_stops, lines_stop, naming_stops, rules_taken, testing_stops, width_stops, writing_stops}
+use Rattle.clio_accept.proofs.LineRules.{MarksRead, all_rules, leaving_stops, limit_stops, lines_stop, naming_stops, rules_taken, testing_stops, width_stops, writing_stops}
 use Rattle.clio_accept.proofs.lines.mapping_between.Goals as goal
 
 pub push_closed-requires-clause-fits : goal.push_closed-requires-clause-fits
@@ -55,7 +55,7 @@ returns-in_err-rules g c =
     let tests = tested c.args.tests.now in
     let b = texts_between c.args.said.source c.args.said.target c.args.said.lines.now c.args.said.conditions.now c.args.said.by_hand.now in
     let fault = c.in_err-rules.field-0.0 in
-    let r : AreRead list tests b = record { few = c.in_ok-count_lines.ensures.few; named = c.in_ok-lines.ensures.none; tested = c.in_ok-conditions.ensures.none; written = c.in_ok-written.ensures.none } in
+    let r : MarksRead list tests b = record { few = c.in_ok-count_lines.ensures.few; named = c.in_ok-lines.ensures.none; tested = c.in_ok-conditions.ensures.none; written = c.in_ok-written.ensures.none } in
     as_error _ (limit_refusal fault) (Answers Memory (mapping_of list tests) b) c.from_residual-in_err-rules.ensures.1
     (limit_stops list tests b fault r (rw (c.items.ensures, c.in_ok-lines.ensures.lines) at c.in_err-rules.ensures.fault))
 
@@ -65,7 +65,7 @@ returns-in_err-push_closed g c =
     let tests = tested c.args.tests.now in
     let b = texts_between c.args.said.source c.args.said.target c.args.said.lines.now c.args.said.conditions.now c.args.said.by_hand.now in
     let fault = c.in_err-push_closed.field-0.0 in
-    let r : AreRead list tests b = record { few = c.in_ok-count_lines.ensures.few; named = c.in_ok-lines.ensures.none; tested = c.in_ok-conditions.ensures.none; written = c.in_ok-written.ensures.none } in
+    let r : MarksRead list tests b = record { few = c.in_ok-count_lines.ensures.few; named = c.in_ok-lines.ensures.none; tested = c.in_ok-conditions.ensures.none; written = c.in_ok-written.ensures.none } in
     as_error _ fault (Answers Memory (mapping_of list tests) b) c.from_residual-in_err-push_closed.ensures.1
     (width_stops list tests b c.in_ok-written.written.items fault r (rw (c.items.ensures, c.in_ok-lines.ensures.lines) at c.in_ok-rules.ensures.passed_none) c.in_ok-written.ensures.rules c.in_err-push_closed.ensures.wide)
 
@@ -74,7 +74,7 @@ pruned-requires g c =
     let list = offered c.args.host.now in
     let tests = tested c.args.tests.now in
     let b = texts_between c.args.said.source c.args.said.target c.args.said.lines.now c.args.said.conditions.now c.args.said.by_hand.now in
-    let r : AreRead list tests b = record { few = c.in_ok-count_lines.ensures.few; named = c.in_ok-lines.ensures.none; tested = c.in_ok-conditions.ensures.none; written = c.in_ok-written.ensures.none } in
+    let r : MarksRead list tests b = record { few = c.in_ok-count_lines.ensures.few; named = c.in_ok-lines.ensures.none; tested = c.in_ok-conditions.ensures.none; written = c.in_ok-written.ensures.none } in
     let e = c.in_ok-push_closed.ensures.closings in
     let all = all_rules list b c.in_ok-written.written.items c.in_ok-rules.rules.items e.0 c.push_closed.new.rules.items c.in_ok-written.ensures.rules
     (rw (c.items.ensures, c.in_ok-lines.ensures.lines) at c.in_ok-rules.ensures.rules) e.1 e.2 in
@@ -85,7 +85,7 @@ returns-in_err-left g c =
     let list = offered c.args.host.now in
     let tests = tested c.args.tests.now in
     let b = texts_between c.args.said.source c.args.said.target c.args.said.lines.now c.args.said.conditions.now c.args.said.by_hand.now in
-    let r : AreRead list tests b = record { few = c.in_ok-count_lines.ensures.few; named = c.in_ok-lines.ensures.none; tested = c.in_ok-conditions.ensures.none; written = c.in_ok-written.ensures.none } in
+    let r : MarksRead list tests b = record { few = c.in_ok-count_lines.ensures.few; named = c.in_ok-lines.ensures.none; tested = c.in_ok-conditions.ensures.none; written = c.in_ok-written.ensures.none } in
     let e = c.in_ok-push_closed.ensures.closings in
     let all = all_rules list b c.in_ok-written.written.items c.in_ok-rules.rules.items e.0 c.push_closed.new.rules.items c.in_ok-written.ensures.rules
     (rw (c.items.ensures, c.in_ok-lines.ensures.lines) at c.in_ok-rules.ensures.rules) e.1 e.2 in
@@ -98,7 +98,7 @@ returns g c =
     let list = offered c.args.host.now in
     let tests = tested c.args.tests.now in
     let b = texts_between c.args.said.source c.args.said.target c.args.said.lines.now c.args.said.conditions.now c.args.said.by_hand.now in
-    let r : AreRead list tests b = record { few = c.in_ok-count_lines.ensures.few; named = c.in_ok-lines.ensures.none; tested = c.in_ok-conditions.ensures.none; written = c.in_ok-written.ensures.none } in
+    let r : MarksRead list tests b = record { few = c.in_ok-count_lines.ensures.few; named = c.in_ok-lines.ensures.none; tested = c.in_ok-conditions.ensures.none; written = c.in_ok-written.ensures.none } in
     let e = c.in_ok-push_closed.ensures.closings in
     let all = all_rules list b c.in_ok-written.written.items c.in_ok-rules.rules.items e.0 c.push_closed.new.rules.items c.in_ok-written.ensures.rules
     (rw (c.items.ensures, c.in_ok-lines.ensures.lines) at c.in_ok-rules.ensures.rules) e.1 e.2 in

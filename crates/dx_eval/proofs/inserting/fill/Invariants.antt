@@ -1,7 +1,7 @@
 use Rattle.std.proofs.Common.{◌≡◌, length, take}
 use Rattle.std.specs.Prelude.{map}
 use Rattle.dx_instance.specs.Numbers.{Extends}
-use Rattle.dx_instance.specs.Shown.{AreBelow, shown_row}
+use Rattle.dx_instance.specs.Shown.{NumbersBelow, shown_row}
 use Rattle.dx_joins.specs.Shown.{texts_of}
 use Rattle.dx_script.specs.Meaning.{inserted}
 use Rattle.dx_tgd.specs.Planned.{built}
@@ -9,7 +9,7 @@ use Rattle.dx_eval.proofs.inserting.fill.Given as goal
 
 abbrev pub invariant-loop-cell : goal.invariant-loop-cell
 invariant-loop-cell l = record {
-  below : AreBelow (length l.target.symbols) l.buffer.items;
+  below : NumbersBelow (length l.target.symbols) l.buffer.items;
   shown : shown_row l.target.symbols l.buffer.items ≡ map (inserted l.rule l.place (texts_of l.fn.target.symbols l.row)) (take l.cell-index l.cells);
   grows : Extends l.fn.target.symbols l.target.symbols;
   same : built l.target ≡ built l.fn.target;

@@ -1,6 +1,6 @@
 use Rattle.std.proofs.Common.{◌∙◌, ◌⊎◌, ap, sym, List, ℕ, length}
 use Rattle.dx_base.specs.Members.{◌∈◌}
-use Rattle.dx_joins.specs.Collecting.{AreThose, Collection, CollectsRows, MoreThan}
+use Rattle.dx_joins.specs.Collecting.{RowsExactly, Collection, CollectsRows, MoreThan}
 use Rattle.dx_joins.specs.Planning.{StepsTo}
 use Rattle.dx_joins.proofs.Carrying.{few_rows, from_plan, plan_steps, step_done, step_full}
 use Rattle.dx_joins.proofs.premise.step.Goals as goal
@@ -39,5 +39,5 @@ pub returns-clause-within : goal.returns-clause-within
 returns-clause-within c =
     let P : List ℕ → Type 0 = from_plan c.args.marked.now.source.now.tables c.args.marked.now.marks.now c.args.partial.now c.args.pattern.now c.in_ok-plan.plan in
     let gains : CollectsRows c.new-out.result c.join.new.out P = rw c.if-branch.false at c.in_ok-join.ensures in
-    few_rows c.finish.result c.join.new.out.most c.args.most (MoreThan c.join.new.out.most (λ t. t ∈ c.join.new.out.rows)) (AreThose c.join.new.out.width (λ t. t ∈ c.join.new.out.rows))
+    few_rows c.finish.result c.join.new.out.most c.args.most (MoreThan c.join.new.out.most (λ t. t ∈ c.join.new.out.rows)) (RowsExactly c.join.new.out.width (λ t. t ∈ c.join.new.out.rows))
     (gains.most ∙ ap (λ (x : Collection). x.most) c.new-out.ensures) c.finish.ensures

@@ -9,9 +9,9 @@ use Rattle.dx_base.proofs.Members.{in_at}
 use Rattle.dx_instance.specs.Cells.{numbers_at}
 use Rattle.dx_instance.proofs.NumberFacts.{stays}
 use Rattle.dx_instance.proofs.ShownFacts.{extends_both}
-use Rattle.dx_joins.specs.Collecting.{AreThose, Collection, MoreThan}
+use Rattle.dx_joins.specs.Collecting.{RowsExactly, Collection, MoreThan}
 use Rattle.dx_joins.specs.Planning.{first_place}
-use Rattle.dx_joins.specs.Shown.{AreTexts}
+use Rattle.dx_joins.specs.Shown.{AllTexts}
 use Rattle.dx_joins.specs.Derivations.{DerivesTo}
 use Rattle.dx_joins.proofs.Carrying.{few_rows}
 use Rattle.dx_joins.proofs.Growing.{texts_grow, upto_none, upto_more, upto_full, upto_all}
@@ -50,7 +50,7 @@ derive_row-requires-clause-row g c =
     record {
       apart = c.loop-place.invariant.apart;
       many = ap length c.row-row.ensures.row ∙ c.count-place-end.ensures.wide row there ∙ c.requires.rows.width;
-      texts = subst (λ (r : List ℕ). AreTexts c.loop-place.symbols r) (sym c.row-row.ensures.row) (texts_grow c.args.symbols.now c.loop-place.symbols row c.loop-place.invariant.grows (c.requires.rows.texts row there));
+      texts = subst (λ (r : List ℕ). AllTexts c.loop-place.symbols r) (sym c.row-row.ensures.row) (texts_grow c.args.symbols.now c.loop-place.symbols row c.loop-place.invariant.grows (c.requires.rows.texts row there));
     }
 
 pub derive_row-requires-clause-places : goal.derive_row-requires-clause-places
@@ -130,5 +130,5 @@ returns-clause-rows g c =
 
 pub returns-clause-within : goal.returns-clause-within
 returns-clause-within g c =
-    few_rows c.finish.result c.loop-place.out.most c.args.most (MoreThan c.loop-place.out.most (λ t. t ∈ c.loop-place.out.rows)) (AreThose c.loop-place.out.width (λ t. t ∈ c.loop-place.out.rows))
+    few_rows c.finish.result c.loop-place.out.most c.args.most (MoreThan c.loop-place.out.most (λ t. t ∈ c.loop-place.out.rows)) (RowsExactly c.loop-place.out.width (λ t. t ∈ c.loop-place.out.rows))
     c.loop-place.invariant.most c.finish.ensures

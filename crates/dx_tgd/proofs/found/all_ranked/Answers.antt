@@ -2,13 +2,13 @@ use Rattle.std.proofs.Common.{length}
 use Rattle.dx_base.specs.Members.{Each}
 use Rattle.dx_base.proofs.Loops.{each_item}
 use Rattle.dx_instance.specs.Cells.{IsOrderOf, NumberTable}
-use Rattle.dx_instance.specs.Shown.{AreBelow, renumbered}
+use Rattle.dx_instance.specs.Shown.{NumbersBelow, renumbered}
 use Rattle.dx_tgd.proofs.Founds.{zip_more}
 use Rattle.dx_tgd.proofs.found.all_ranked.Goals as goal
 
 pub ranked-requires : goal.ranked-requires
 ranked-requires c =
-    each_item (λ (t : NumberTable). Each t.rows (AreBelow (length c.args.ranks.now))) c.args.tables.now c.loop-rows.rows-index c.rows-item.result c.loop-rows-test.true c.rows-item.is c.requires
+    each_item (λ (t : NumberTable). Each t.rows (NumbersBelow (length c.args.ranks.now))) c.args.tables.now c.loop-rows.rows-index c.rows-item.result c.loop-rows-test.true c.rows-item.is c.requires
 
 pub loop-rows-preserved : goal.loop-rows-preserved
 loop-rows-preserved c =

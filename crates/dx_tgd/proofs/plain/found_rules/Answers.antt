@@ -11,7 +11,7 @@ use Rattle.dx_joins.specs.Shown.{texts_of}
 use Rattle.dx_joins.proofs.Carrying.{found}
 use Rattle.dx_tgd.specs.Asked.{IsMatchable}
 use Rattle.dx_tgd.specs.Counting.{canonical_cells}
-use Rattle.dx_tgd.specs.Found.{AreFoundRules, IsFoundRule}
+use Rattle.dx_tgd.specs.Found.{AllRulesFound, IsFoundRule}
 use Rattle.dx_tgd.specs.Placed.{HasCell}
 use Rattle.dx_tgd.specs.Texts.{tuples_in}
 use Rattle.dx_tgd.proofs.Founds.{found_start, none_found, none_passes, passes, product_fits, so_far_more, tuples_distinct, tuples_shown}
@@ -33,7 +33,7 @@ rule_rows-requires-clause-symbols g c = extends_both c.args.source.now.symbols c
 pub returns-clause-found : goal.returns-clause-found
 returns-clause-found g c =
     let I = facts (shown_tables c.args.source.now.symbols c.args.source.now.tables) in
-    subst (λ (R : List Rule). AreFoundRules g.M.Meaning.apply I c.loop-rule.symbols R c.loop-rule.tables.items) (take_all c.loop-rule.rule-index c.args.rules.now (omega (arith, c.loop-rule-test.false))) c.loop-rule.invariant.found
+    subst (λ (R : List Rule). AllRulesFound g.M.Meaning.apply I c.loop-rule.symbols R c.loop-rule.tables.items) (take_all c.loop-rule.rule-index c.args.rules.now (omega (arith, c.loop-rule-test.false))) c.loop-rule.invariant.found
 
 pub returns-clause-within : goal.returns-clause-within
 returns-clause-within g c =

@@ -1,7 +1,7 @@
 use Rattle.std.proofs.Common.{◌∙◌, ap, arith, ◌++◌, ◌∷◌, [], length}
 use Rattle.std.proofs.lemmas.Grind.{common_steps}
 use Rattle.dx_base.specs.Members.{Each}
-use Rattle.dx_used.specs.Counting.{AreRead, ReadsNamed, UsesOnlyOf}
+use Rattle.dx_used.specs.Counting.{MarksRead, ReadsNamed, UsesOnlyOf}
 use Rattle.dx_used.proofs.MarkFacts.{all_tables, all_widths, none_wide, tables_more, tables_read, width_more}
 use Rattle.dx_used.proofs.NamedFacts.{all_named, exact_marks, none_read}
 use Rattle.dx_used.proofs.marking.used_columns.Goals as goal
@@ -28,7 +28,7 @@ loop-table-preserved c =
           c.loop-table.invariant.only c.in_ok-marks.ensures.only (grind (arith, common_steps));
       named = tables_more (λ t ms. Each c.args.conditions.now (ReadsNamed t ms)) c.loop-table.used.items c.loop-table.table _ c.in_ok-marks.marks.items c.push.new.self.items c.loop-table.invariant.many e
           c.loop-table.invariant.named c.in_ok-marks.ensures.named (grind (arith, common_steps));
-      read = λ r. tables_read (AreRead c.args.rules.now c.args.conditions.now) c.loop-table.used.items c.loop-table.table c.in_ok-marks.marks.items c.push.new.self.items c.loop-table.invariant.many e
+      read = λ r. tables_read (MarksRead c.args.rules.now c.args.conditions.now) c.loop-table.used.items c.loop-table.table c.in_ok-marks.marks.items c.push.new.self.items c.loop-table.invariant.many e
           (c.loop-table.invariant.read r) (c.in_ok-marks.ensures.read r);
     }
 

@@ -2,7 +2,7 @@ use Rattle.std.proofs.Common.{◌≡◌, ◌-◌, ◌+◌, ◌∙◌, ap, arith,
 use Rattle.std.proofs.lemmas.List.{length-replicate}
 use Rattle.dx_instance.proofs.NumberFacts.{stays}
 use Rattle.dx_instance.proofs.ShownFacts.{extends_both}
-use Rattle.dx_csv.specs.Blanks.{AreSettled}
+use Rattle.dx_csv.specs.Blanks.{ColumnsSettled}
 use Rattle.dx_csv.proofs.ColumnFacts.{all_settled, rows_below, rows_shown, settled_none}
 use Rattle.dx_csv.proofs.interning.Grid.rows.Goals as goal
 
@@ -12,7 +12,7 @@ loop-settled-init c =
     let all : c.args.self.now.width ≡ c.args.self.now.width - 0 = omega arith in
     record {
       size = ap length blank ∙ length-replicate c.len.result c.in_ok-blank.blank ∙ c.len.ensures;
-      settled = subst (AreSettled c.args.used.now c.intern_blank.new.symbols c.args.self.now.texts.now c.args.self.now.width c.args.self.now.count c.in_ok-cells.cells.items) all
+      settled = subst (ColumnsSettled c.args.used.now c.intern_blank.new.symbols c.args.self.now.texts.now c.args.self.now.width c.args.self.now.count c.in_ok-cells.cells.items) all
           (settled_none c.args.used.now c.intern_blank.new.symbols c.args.self.now.texts.now c.args.self.now.width c.args.self.now.count c.len.result c.in_ok-blank.blank c.in_ok-cells.cells.items blank (c.len.ensures ∙ c.args.self.now.whole) c.in_ok-blank.ensures.blank);
       grows = stays c.intern_blank.new.symbols;
     }
@@ -20,7 +20,7 @@ loop-settled-init c =
 pub settle_column-requires-clause-settled : goal.settle_column-requires-clause-settled
 settle_column-requires-clause-settled c =
     let first : c.args.self.now.width - c.loop-settled.settled ≡ c.args.self.now.width - 1 - c.loop-settled.settled + 1 = omega (arith, c.loop-settled-test.true) in
-    subst (AreSettled c.args.used.now c.loop-settled.symbols c.args.self.now.texts.now c.args.self.now.width c.args.self.now.count c.loop-settled.cells.items) first c.loop-settled.invariant.settled
+    subst (ColumnsSettled c.args.used.now c.loop-settled.symbols c.args.self.now.texts.now c.args.self.now.width c.args.self.now.count c.loop-settled.cells.items) first c.loop-settled.invariant.settled
 
 pub settle_column-requires-clause-cells : goal.settle_column-requires-clause-cells
 settle_column-requires-clause-cells c = c.loop-settled.invariant.size ∙ c.args.self.now.whole
@@ -30,7 +30,7 @@ loop-settled-preserved c =
     let next : c.args.self.now.width - 1 - c.loop-settled.settled ≡ c.args.self.now.width - (c.loop-settled.settled + 1) = omega arith in
     record {
       size = c.in_ok-settle_column.ensures.size ∙ c.loop-settled.invariant.size;
-      settled = subst (AreSettled c.args.used.now c.settle_column.new.symbols c.args.self.now.texts.now c.args.self.now.width c.args.self.now.count c.settle_column.new.cells.items) next c.in_ok-settle_column.ensures.settled;
+      settled = subst (ColumnsSettled c.args.used.now c.settle_column.new.symbols c.args.self.now.texts.now c.args.self.now.width c.args.self.now.count c.settle_column.new.cells.items) next c.in_ok-settle_column.ensures.settled;
       grows = extends_both _ _ _ c.loop-settled.invariant.grows c.in_ok-settle_column.ensures.grows;
     }
 

@@ -2,7 +2,7 @@ use Rattle.std.proofs.Common.{◌∙◌, ◌+◌, ◌^◌, List, ℕ, arith, get
 use Rattle.std.proofs.lemmas.List.{take_all}
 use Rattle.dx_base.specs.Members.{Each}
 use Rattle.dx_instance.specs.Cells.{NumberTable}
-use Rattle.dx_instance.specs.Shown.{AreBelow}
+use Rattle.dx_instance.specs.Shown.{NumbersBelow}
 use Rattle.dx_instance.proofs.CellFacts.{below_one_more, rows_below}
 use Rattle.dx_instance.proofs.KeyFacts.{max_is}
 use Rattle.dx_instance.proofs.cells.Rows.bound.Goals as goal
@@ -21,5 +21,5 @@ loop-cell-preserved c =
 pub returns-clause-below : goal.returns-clause-below
 returns-clause-below c =
     let all = take_all c.loop-cell.cell-index c.as_slice-cell-items.result.now c.loop-cell-test.false ∙ c.as_slice-cell-items.ensures.value in
-    let rows = rows_below c.self.inside.count c.self.inside.width c.loop-cell.bound c.self.inside.cells.items (subst (λ (cells : List ℕ). AreBelow c.loop-cell.bound cells) all c.loop-cell.invariant.below) in
-    subst (λ (t : NumberTable). Each t.rows (AreBelow c.loop-cell.bound)) c.self.view_is rows
+    let rows = rows_below c.self.inside.count c.self.inside.width c.loop-cell.bound c.self.inside.cells.items (subst (λ (cells : List ℕ). NumbersBelow c.loop-cell.bound cells) all c.loop-cell.invariant.below) in
+    subst (λ (t : NumberTable). Each t.rows (NumbersBelow c.loop-cell.bound)) c.self.view_is rows

@@ -2,7 +2,7 @@ use Rattle.std.proofs.Common.{◌≡◌, ◌∙◌, [], sym, ap, length, arith}
 use Rattle.dx_base.specs.Members.{◌∈◌}
 use Rattle.dx_base.proofs.Members.{in_at}
 use Rattle.dx_instance.specs.Cells.{NumberTable, numbers_at}
-use Rattle.dx_instance.specs.Keys.{AreSmall, packed}
+use Rattle.dx_instance.specs.Keys.{AllSmall, packed}
 use Rattle.dx_instance.proofs.CellFacts.{length_rows}
 use Rattle.dx_instance.proofs.KeyFacts.{keyed_more}
 use Rattle.dx_instance.proofs.cells.Rows.keyed_places.Goals as goal
@@ -24,7 +24,7 @@ loop-place-preserved c =
     let b = c.args.packing.base in
     let n = c.args.packing.digits in
     let e = c.row.ensures.row in
-    keyed_more (numbers_at c.args.self.now.rows) (packed b n 0) (AreSmall b n) c.loop-place.keys.items c.push.new.self.items c.loop-place.place c.key_of.result c.loop-place.invariant.many c.in_ok-push.ensures.items (rw (← e) c.key_of.ensures.key) (rw (← e) c.key_of.ensures.small) c.loop-place.invariant
+    keyed_more (numbers_at c.args.self.now.rows) (packed b n 0) (AllSmall b n) c.loop-place.keys.items c.push.new.self.items c.loop-place.place c.key_of.result c.loop-place.invariant.many c.in_ok-push.ensures.items (rw (← e) c.key_of.ensures.key) (rw (← e) c.key_of.ensures.small) c.loop-place.invariant
 
 pub returns : goal.returns
 returns c =

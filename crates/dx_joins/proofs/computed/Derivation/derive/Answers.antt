@@ -4,7 +4,7 @@ use Rattle.dx_base.proofs.Members.{item_in}
 use Rattle.dx_model.specs.declared.rules.Derived.{Derived}
 use Rattle.dx_instance.proofs.NumberFacts.{stays}
 use Rattle.dx_instance.proofs.ShownFacts.{extends_both}
-use Rattle.dx_joins.specs.Shown.{AreTexts, texts_of}
+use Rattle.dx_joins.specs.Shown.{AllTexts, texts_of}
 use Rattle.dx_joins.specs.Derivations.{derived_values}
 use Rattle.dx_joins.proofs.Growing.{derive_more, texts_grow}
 use Rattle.dx_joins.proofs.computed.Derivation.derive.Goals as goal
@@ -15,7 +15,7 @@ loop-one-init g c =
     record {
       grows = stays c.args.symbols.now;
       apart = c.requires.row.apart;
-      texts = subst (λ (l : List ℕ). AreTexts c.args.symbols.now l) (sym e) c.requires.row.texts;
+      texts = subst (λ (l : List ℕ). AllTexts c.args.symbols.now l) (sym e) c.requires.row.texts;
       shown = ap (texts_of c.args.symbols.now) e ∙ sym (append-nil (texts_of c.args.symbols.now c.args.row.now));
     }
 
@@ -43,7 +43,7 @@ loop-one-preserved g c =
     record {
       grows = extends_both c.args.symbols.now c.loop-one.symbols c.derived_number.new.symbols inv.grows c.derived_number.ensures.grows;
       apart = c.derived_number.ensures.apart;
-      texts = subst (λ (l : List ℕ). AreTexts c.derived_number.new.symbols l) (sym c.in_ok-push.ensures.items) more.0;
+      texts = subst (λ (l : List ℕ). AllTexts c.derived_number.new.symbols l) (sym c.in_ok-push.ensures.items) more.0;
       shown = ap (texts_of c.derived_number.new.symbols) c.in_ok-push.ensures.items ∙ more.1;
     }
 
