@@ -1,3 +1,4 @@
+pub mod Asked
 pub mod Members
 pub mod Loops
 pub mod Ranges
