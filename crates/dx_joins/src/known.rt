@@ -66,24 +66,14 @@ impl Known {
     pub(crate) fn meets(&self, pattern: &Pattern) -> bool
         ensures { IsTrue result ↔ IsMet self.now pattern.now }
     {
-        for variable in &pattern.variables {
-            if self.has(*variable) {
-                return true;
-            }
-        }
-        false
+        pattern.variables.iter().any(|variable| self.has(*variable))
     }
 
     /// Whether each variable of the pattern is known.
     pub(crate) fn covers(&self, pattern: &Pattern) -> bool
         ensures { IsTrue result ↔ IsCovered self.now pattern.now }
     {
-        for variable in &pattern.variables {
-            if !self.has(*variable) {
-                return false;
-            }
-        }
-        true
+        pattern.variables.iter().all(|variable| self.has(*variable))
     }
 
     // Now the variable is known too, if there is a place for it.
