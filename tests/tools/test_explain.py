@@ -166,6 +166,20 @@ class Explain(unittest.TestCase):
             self.assertEqual(run([sys.executable, TOOLS / "clio-explain", "show"]).returncode,
                              run(["clio", "show"]).returncode)
 
+    def test_empty_key(self) -> None:
+        """A hundred rows that meet in an empty key take a line for each column, and the rows of two texts."""
+        names = ["a", "b", "c", "d", "e", "f"]
+        mapping = (f"mapping 1; source {{ set s {{ k, {', '.join(names)}; }} }} target {{ set t {{ k, {', '.join(names)}; key (k); }} }} "
+                   + " ".join(f"line s.{name} -> t.{name};" for name in ["k", *names]))
+        rows = "".join("," + ",".join(f"{name}{number}" for name in names) + "\n" for number in range(100))
+        with self.there({"mapping.clio": mapping, "s.csv": ",".join(["k", *names]) + "\n" + rows}):
+            ran = run([sys.executable, TOOLS / "clio-explain", "exchange"])
+        self.assertEqual(ran.returncode, 3)
+        said = ran.stderr.decode()
+        self.assertIn("6 clashes in all", said)
+        self.assertIn("k is empty in these rows", said)
+        self.assertLess(len(said.splitlines()), 15, said)
+
     def test_open_quotes(self) -> None:
         for content, wanted in [(b'x\n"a', True), (b'x\n"a"', False), (b'x\n"a""', True), (b'x\na"', False),
                                 (b'x\n"a\n\n', True), (b"", False), (b'"a"b"', False)]:

@@ -617,6 +617,18 @@ class OnPostgres(Common):
         numbers = sorted(int(number or 0) for number in self.base.numbers()["town"].values())
         self.assertEqual(int(self.base.numbers()["town"]["Graz AT"] or 0), numbers[-1])
 
+    def test_descending_sequence(self) -> None:
+        """Numbers that go down stay behind the least one, and those of a load with numbers are passed by."""
+        self.base.run("ALTER TABLE town ALTER tid SET INCREMENT -5 SET MINVALUE -1000 SET MAXVALUE 1000 RESTART 100")
+        self.base.run("INSERT INTO country VALUES ('AT'); INSERT INTO town (tid, name, iso) OVERRIDING SYSTEM VALUE "
+                      "VALUES (95, 'Graz', 'AT')")
+        self.source(FIRST)
+        self.load("--identity")
+        numbers = [int(number or 0) for number in self.base.numbers()["town"].values()]
+        self.assertEqual(sorted(numbers, reverse=True), [95, 90, 85, 80])
+        self.base.run("INSERT INTO town (name, iso) VALUES ('Linz', 'AT')")
+        self.assertEqual(self.base.numbers()["town"]["Linz AT"], "75")
+
     def test_identity_past_the_sequence(self) -> None:
         """A number that somebody wrote into a row, and that the sequence has not given yet, is no new thing's."""
         self.base.run("INSERT INTO country VALUES ('AT'); INSERT INTO town (tid, name, iso) OVERRIDING SYSTEM VALUE "

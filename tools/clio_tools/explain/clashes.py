@@ -5,7 +5,7 @@ from collections.abc import Iterator
 from clio_tools.explain.causes import shown_ref
 from clio_tools.explain.drawn import PRINTED
 from clio_tools.explain.joins import Matches, TooMany
-from clio_tools.explain.key_chase import Canonical, Clash, KeyChase, KeyStep, Origin, Value
+from clio_tools.explain.key_chase import Canonical, Cells, Clash, KeyChase, KeyStep, Origin, Value
 from clio_tools.explain.pieces import Piece, RowLine
 from clio_tools.explain.program import mapping_of
 from clio_tools.explain.said import amount, listed, shown, visible
@@ -14,8 +14,10 @@ from clio_tools.mapping.meaning import Mapping
 from clio_tools.mapping.rules import LITERAL
 from clio_tools.mapping.tables import Columns, Table
 
-IN_FULL = 50  # clashes that are told with their rows
+IN_FULL = 50  # keys of which clashes are told with their rows
 IN_ALL = 1000  # clashes that are told at all
+TEXTS = 8  # texts that are told with their rows, of all clashes of the same rows
+OF_EMPTY_KEY = 2  # the same, if they meet in a key with nothing in it: what to do is said already
 ROWS = 3  # rows that are told of one text
 STRING = r'("[^"\\]*(?:\\.[^"\\]*)*")'
 FORM = re.compile(rf"clash: table (\w+), key \(([#\w, ]+)\): {STRING} and {STRING} in column ([#\w]+)", re.DOTALL)
@@ -65,16 +67,21 @@ class Clashes:
                " have different texts in a column")
         if ordered:
             yield from self.causes(ordered[0])
+        left: dict[tuple[int, int, Cells], int] = {}
         for number, clash in enumerate(ordered[:IN_ALL]):
             table, key, column = self.names(clash)
             agreed = ", ".join(f"{name} = {self.shown_value(value)}" for name, value in zip(key, clash.agreed))
             texts = list(clash.texts)
             yield (f"{number + 1}. {table}, {agreed}: column {column} has {amount(len(texts), 'text')}: "
                    + ", ".join(map(shown, texts[:4])) + (", .." if len(texts) > 4 else ""))
-            if number < IN_FULL:
-                for text in texts[:8]:
+            group = (clash.table, clash.key, clash.agreed)
+            if group in left or len(left) < IN_FULL:
+                told = texts[:left.setdefault(group, TEXTS if any(clash.agreed) else OF_EMPTY_KEY)]
+                left[group] -= len(told)
+                for text in told:
                     yield from self.of_text(clash, text)
-                yield from self.of_nulls(clash)
+                if told:
+                    yield from self.of_nulls(clash)
         if len(ordered) > IN_ALL:
             yield f"and {len(ordered) - IN_ALL:,} more"
 

@@ -49,7 +49,8 @@ up to a minute.
 toolchain.
 
 A message that it can't explain, as that of a mapping in a later version of the text, is passed on alone. At most 1,000
-clashes are listed, the first 50 with their rows; if rules have more than 20,000,000 matches, none.
+clashes are listed. Rows are listed of the first 50 groups that agree on a key: those of eight texts, or of two if the
+key is empty. If rules have more than 20,000,000 matches, no clash is listed.
 
 EXIT STATUS
 That of clio; 128 and the number of a signal if one ended it; 1 if there is no clio.

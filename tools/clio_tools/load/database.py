@@ -96,9 +96,9 @@ class Database(abc.ABC):
         """Puts rows of texts into a work table."""
 
     @abc.abstractmethod
-    def next_value(self, plan: TablePlan, column: Column, least: str, is_dry: bool) -> str:
+    def next_value(self, plan: TablePlan, column: Column, taken: str, is_dry: bool) -> str:
         """The next value of a column that the database numbers, in a query whose rows have a place from 1; it is behind
-        another value. In a dry run it is the one that would come."""
+        the values of a table of taken ones. In a dry run it is the one that would come."""
 
     @abc.abstractmethod
     def misfits(self, plan: TablePlan, options: Options) -> list[Misfit]:
@@ -142,7 +142,7 @@ class Database(abc.ABC):
 
     @abc.abstractmethod
     def set_sequences(self, plan: TablePlan) -> None:
-        """Sets what numbers a table's columns behind the greatest number in them."""
+        """Sets what numbers a table's columns behind the last number in them."""
 
     @abc.abstractmethod
     def close(self) -> None:

@@ -96,8 +96,7 @@ class Identity:
     def next_values(self, domain: Domain, is_dry: bool) -> str:
         """Gives new values to the things that have none."""
         home = domain.home
-        value = self.database.next_value(home, home.loaded[domain.place], f"(SELECT max(value) FROM {domain.work})",
-                                         is_dry)
+        value = self.database.next_value(home, home.loaded[domain.place], domain.work, is_dry)
         return (f"INSERT INTO {domain.work} (number, value, is_new) SELECT a.number, {value}, 1"
                 f" FROM (SELECT f.number, row_number() OVER (ORDER BY f.number) AS place FROM"
                 f" (SELECT DISTINCT n.c{domain.place} AS number FROM {home.work('new')} AS n) AS f"

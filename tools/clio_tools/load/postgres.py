@@ -207,14 +207,30 @@ class Postgres(Database):
     def insert(self, table: str, rows: Iterable[Cells]) -> None:
         self.session.copy_rows_in(table, rows)
 
-    def next_value(self, plan: TablePlan, column: Column, least: str, is_dry: bool) -> str:
+    def next_value(self, plan: TablePlan, column: Column, taken: str, is_dry: bool) -> str:
         if column.sequence is not None and not is_dry:
-            self.set_sequence(plan, column, least)  # it may be behind rows that were written with numbers
+            self.set_sequence(plan, column, taken)  # it may be behind rows that were written with numbers
             return f"pg_catalog.nextval({literal(column.sequence)})"
-        parts = [f"coalesce({least}, 0)", f"coalesce((SELECT max({identifier(column.name)}) FROM {plan.table.sql}), 0)"]
+        step = self.step(column)
+        last = self.value(self.last_number(plan, column, step, taken))
+        return f"{last or 0}::bigint + {step} * place"
+
+    def step(self, column: Column) -> int:
+        """From each number of a column to the next: below 0 if they descend."""
+        if column.sequence is None:
+            return 1
+        return self.count("SELECT seqincrement FROM pg_catalog.pg_sequence WHERE seqrelid ="
+                          f" {literal(column.sequence)}::pg_catalog.regclass")
+
+    def last_number(self, plan: TablePlan, column: Column, step: int, taken: str | None) -> str:
+        """The last number, as its sequence counts, that a column or a table of taken ones has, or that was given."""
+        last, end = ("greatest", "max") if step > 0 else ("least", "min")
+        parts = [f"(SELECT {end}({identifier(column.name)})::bigint FROM {plan.table.sql})"]
+        if taken is not None:
+            parts.append(f"(SELECT {end}(value) FROM {taken})")
         if column.sequence is not None:
-            parts.append(f"(SELECT last_value - CASE WHEN is_called THEN 0 ELSE 1 END FROM {column.sequence})")
-        return f"greatest({', '.join(parts)}) + place"
+            parts.append(f"(SELECT last_value - CASE WHEN is_called THEN 0 ELSE {step} END FROM {column.sequence})")
+        return f"SELECT {last}({', '.join(parts)})"
 
     def cell(self, plan: TablePlan, number: int, options: Options) -> str:
         """The text of a loaded column in SQL, NULL if there is to be no value."""
@@ -317,15 +333,15 @@ class Postgres(Database):
         for column in plan.loaded:
             self.set_sequence(plan, column)
 
-    def set_sequence(self, plan: TablePlan, column: Column, least: str = "NULL") -> None:
-        """Sets what numbers a column behind the greatest number in it, and behind another one."""
+    def set_sequence(self, plan: TablePlan, column: Column, taken: str | None = None) -> None:
+        """Sets what numbers a column behind the last number in it, and behind those of a table of taken ones."""
         if column.sequence is None:
             return
-        there = f"SELECT max({identifier(column.name)}) FROM {plan.table.sql}"
-        greatest = self.count(f"SELECT greatest(({there}), {least})")
-        last = self.count(f"SELECT last_value - CASE WHEN is_called THEN 0 ELSE 1 END FROM {column.sequence}")
-        if greatest > last:
-            self.value(f"SELECT pg_catalog.setval({literal(column.sequence)}, {greatest})")
+        step = self.step(column)
+        given = self.count(f"SELECT last_value - CASE WHEN is_called THEN 0 ELSE {step} END FROM {column.sequence}")
+        last = self.count(self.last_number(plan, column, step, taken))
+        if last != given:
+            self.value(f"SELECT pg_catalog.setval({literal(column.sequence)}, {last})")
 
     def close(self) -> None:
         self.session.close()

@@ -188,8 +188,9 @@ class Sqlite(Database):
             if listed:
                 self.base.executemany(f"INSERT INTO {table} VALUES ({', '.join('?' * len(listed[0]))})", listed)
 
-    def next_value(self, plan: TablePlan, column: Column, least: str, is_dry: bool) -> str:
-        parts = [f"coalesce({least}, 0)", f"coalesce((SELECT max({identifier(column.name)}) FROM {plan.table.sql}), 0)"]
+    def next_value(self, plan: TablePlan, column: Column, taken: str, is_dry: bool) -> str:
+        parts = [f"coalesce((SELECT max(value) FROM {taken}), 0)",
+                 f"coalesce((SELECT max({identifier(column.name)}) FROM {plan.table.sql}), 0)"]
         if self.value("SELECT 1 FROM main.sqlite_master WHERE name = 'sqlite_sequence'"):
             parts.append(f"coalesce((SELECT max(seq) FROM main.sqlite_sequence WHERE name = "
                          f"{literal(plan.table.name)}), 0)")
