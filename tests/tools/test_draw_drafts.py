@@ -38,6 +38,14 @@ class Drafts(Page):
                         f"document.getElementById('draft-data').checked = {json.dumps(data)}, 1)")
         self.browser.click("#draft-do")
 
+    def entered(self, side: str) -> str:
+        """The place that the dialog of a side begins with."""
+        self.browser.click(f'button.draft[data-side="{side}"]')
+        self.browser.until("document.getElementById('draft').open")
+        place = self.browser.js("document.getElementById('draft-place').value")
+        self.browser.click("#draft-no")
+        return str(place)
+
     def line(self, source: str, target: str, way: str = "") -> None:
         """Draws a line, by a way if there are several."""
         self.browser.drag(f'#source [data-key="{source}"]', f'#target [data-key="{target}"]')
@@ -57,6 +65,7 @@ class Drafts(Page):
         self.browser.click("#draft-no")
         self.draft("source", "old.db", True)
         self.until_text("set Ship_Orders {")
+        self.assertEqual([self.entered("target"), self.entered("source")], ["", "old.db"])
         self.draft("target", "new.db")
         self.until_text("set sale {")
         self.settled()

@@ -9,9 +9,12 @@ const WHAT = {
   csv: "folder",
   json: "file"
 };
+const FIELDS = ["draft-kind", "draft-place", "draft-schema"];
+const entered = {source: {}, target: {}};  // by side what stands in these fields
 let side = "source";
 
 export function startDrafts(again) {
+  for (const fields of Object.values(entered)) keep(fields);
   for (const button of document.querySelectorAll("button.draft"))
     button.addEventListener("click", () => offer(button.dataset.side));
   byId("draft-kind").addEventListener("change", showKind);
@@ -22,8 +25,14 @@ export function startDrafts(again) {
   });
 }
 
+function keep(fields) {
+  for (const field of FIELDS) fields[field] = byId(field).value;
+}
+
 function offer(which) {
+  keep(entered[side]);
   side = which;
+  for (const field of FIELDS) byId(field).value = entered[side][field];
   byId("draft-title").textContent = `Draft the ${side}`;
   byId("draft-data-line").hidden = side === "target";
   byId("draft-fault").textContent = "";
