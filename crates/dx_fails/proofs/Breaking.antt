@@ -1,5 +1,5 @@
 -- Determinations of one table, by the first rows that have what others have on the left.
-use Rattle.std.proofs.Common.{◌≡◌, ◌∙◌, ℕ, ◌<◌, ◌≤◌, List, inl, inr, refl, sym, ap, subst, arith, length, map, get_or}
+use Rattle.std.proofs.Common.{◌≡◌, ◌∙◌, ◌+◌, ℕ, ◌<◌, ◌≤◌, List, inl, inr, refl, sym, ap, subst, arith, length, map, get_or}
 use Rattle.std.proofs.lemmas.Bool.{cases_lt}
 use Rattle.std.proofs.lemmas.List.{get_or-map, get_or_default, length-map}
 use Rattle.dx_base.specs.Members.{◌∈◌}
