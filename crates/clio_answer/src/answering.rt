@@ -32,12 +32,7 @@ use std::alloc::{AllocError, Global};
 fn have_few_atoms(parts: &[Part]) -> bool
     ensures { IsTrue result ↔ Each parts.now (λ p. length p.atoms ≤ QUERY_ATOMS) }
 {
-    for part in parts {
-        if part.atoms.len() > QUERY_ATOMS {
-            return false;
-        }
-    }
-    true
+    parts.iter().all(|part| part.atoms.len() <= QUERY_ATOMS)
 }
 
 // The query over a target that the text's bytes say.

@@ -28,7 +28,8 @@ fn table_file(
     requires no_mark { HasNoMark (schema_table schema.now table).columns }
     ensures { IfOk result (λ p. IsTableFile front.now (schema_table schema.now table) (rows_of instance.now table) (printed_view p)) }
 {
-    let _tables = instance.tables();
+    // The call tells that no row stands twice.
+    prove!(table < instance.tables());
     let bytes = print_table_bytes(alloc, schema.columns(table), instance, table)?;
     Ok(Printed {
         file: File {

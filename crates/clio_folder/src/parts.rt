@@ -19,7 +19,8 @@ pub struct Part {
 
 /// Makes the folder `out`, if it is absent. A link in its place is refused, since it may lead anywhere.
 pub fn make_out<R: Files>(rt: &R) -> io::Result<()> {
-    let _ = fs::create_dir(rt, "out");
+    // It may be there already: what counts is what is there now.
+    fs::create_dir(rt, "out").ok();
     if fs::symlink_metadata(rt, "out")?.is_dir() {
         return Ok(());
     }
@@ -60,7 +61,8 @@ pub fn write_part<R: Files + AllocGlobal + Clock>(
     match fill(file, bytes) {
         Ok(log) => Ok(Part { path, log }),
         Err(error) => {
-            let _ = fs::remove_file(rt, path.as_str());
+            // The error of the writing is told, also if the part can't be removed.
+            fs::remove_file(rt, path.as_str()).ok();
             Err(error)
         }
     }
@@ -90,7 +92,8 @@ pub fn publish<R: Files + AllocGlobal>(
             Ok(())
         }
         Err(error) => {
-            let _ = fs::remove_file(rt, part.path.as_str());
+            // The error of the move is told, also if the part can't be removed.
+            fs::remove_file(rt, part.path.as_str()).ok();
             Err(error)
         }
     }
@@ -121,7 +124,8 @@ pub fn remove_left_overs<R: Files + AllocGlobal>(rt: &R, process: u32) -> io::Re
     for entry in fs::read_dir(&rt, "out")? {
         let entry = entry?;
         if is_left_over(rt, process, entry.file_name())? {
-            let _ = fs::remove_file(rt, entry.path());
+            // A part that can't be removed is in nobody's way.
+            fs::remove_file(rt, entry.path()).ok();
         }
     }
     Ok(())

@@ -1,14 +1,14 @@
 -- Numbers of nulls, and the rows that hold them.
 use Rattle.std.proofs.Common.{◌≡◌, ℕ, zero, suc, ◌+◌, ◌-◌, ◌<◌, ◌≤◌, List, [], ◌∷◌, ◌++◌, ◌⊎◌, inl, inr, refl, sym, ◌∙◌, ap, subst, arith}
-use Rattle.std.proofs.Common.{length, get_or, take, map}
-use Rattle.std.specs.List.{range_with_len}
+use Rattle.std.proofs.Common.{length, get_or, map, Option, None, Some}
+use Rattle.std.specs.Prelude.{MatchOption, IfNone, IfSome}
+use Rattle.std.specs.List.{range_with_len, AllWithin, HoldsAt}
 use Rattle.std.specs.declared.cmp.Ordering.TheVariants.{Less}
 use Rattle.std.proofs.lemmas.Bool.{cases_eq, cases_lt}
-use Rattle.std.proofs.lemmas.List.{length-map, get_or-map, get_or_default, take_all}
+use Rattle.std.proofs.lemmas.List.{length-map, get_or-map, get_or_default}
 use Rattle.std.proofs.lemmas.List.FromFn.{length-range_with_len}
 use Rattle.dx_base.specs.Members.{◌∈◌, here, there, Each}
-use Rattle.dx_base.proofs.Loops.{each_more}
-use Rattle.dx_base.proofs.Members.{in_map, from_map, in_left, in_right, from_append}
+use Rattle.dx_base.proofs.Members.{contains_from_in, item_in, in_map, from_map, in_left, in_right, from_append}
 use Rattle.dx_base.proofs.Ranges.{from_range, to_range}
 use Rattle.dx_model.specs.declared.values.NullId.{NullId}
 use Rattle.dx_model.specs.declared.values.Value.{Value}
@@ -52,12 +52,15 @@ first_is N i m f up h e none = record {
 
 -- ---- the numbers of a row
 
--- one number more
-pub number_more : (P : ℕ → Type 0) (xs : List ℕ) (i : ℕ) → i < length xs → P (get_or xs i 0) → Each (take i xs) P → Each (take (i + 1) xs) P
-number_more P xs i h p e = each_more P xs i (get_or xs i 0) h (get_or_default xs i 0 (get_or xs i 0) h) e p
+-- ---- what `find` answers of the numbers of a row
 
-pub all_below : (xs : List ℕ) (i first : ℕ) → length xs ≤ i → Each (take i xs) (λ n. n < first) → Each xs (λ n. n < first)
-all_below xs i first h e = rw (take_all i xs h) at e
+pub none_found : (P Q : ℕ → Type 0) (xs : List ℕ) (o : Option ℕ) → MatchOption o (AllWithin Q xs 0 (length xs)) (λ n. P n × (i : ℕ) × (i < length xs) × HoldsAt (λ m. m ≡ n) xs i × AllWithin Q xs 0 i) → IfNone o (Each xs Q)
+none_found P Q xs None h = λ n m. let c = contains_from_in m in subst Q c.2 (h c.0 n (omega arith) c.1)
+none_found P Q xs (Some n) h = tt
+
+pub some_found : (P Q : ℕ → Type 0) (xs : List ℕ) (o : Option ℕ) → MatchOption o (AllWithin Q xs 0 (length xs)) (λ n. P n × (i : ℕ) × (i < length xs) × HoldsAt (λ m. m ≡ n) xs i × AllWithin Q xs 0 i) → IfSome o (λ n. (n ∈ xs) × P n)
+some_found P Q xs None h = tt
+some_found P Q xs (Some n) h = (item_in xs h.1 n h.2 (sym (h.3 n)), h.0)
 
 -- ---- rows in order
 

@@ -27,12 +27,7 @@ pub fn null_in(row: &[u32], first: u32) -> Option<u32>
     ensures none { IfNone result (Each row.now (λ n. n < first)) }
     ensures some { IfSome result (λ n. (n ∈ row.now) × (first ≤ n)) }
 {
-    for number in row {
-        if *number >= first {
-            return Some(*number);
-        }
-    }
-    None
+    row.iter().copied().find(|number| *number >= first)
 }
 
 // The rows of a table that hold nulls, after those of the tables before it.

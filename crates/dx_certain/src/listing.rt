@@ -68,8 +68,8 @@ fn tuples_of(alloc: Global, rows: &Instance) -> Result<Tuples, AllocError>
     requires constants { Each (rows_of rows.now 0) (λ row. Each row IsConstant) }
     ensures { IfOk result (λ tuples. tuples ≡ map (map text_of_value) (rows_of rows.now 0)) }
 {
-    // What holds of the tables of each instance.
-    let _tables = rows.tables();
+    // The call tells what holds of the tables of each instance.
+    prove!(rows.tables() > 0);
     let width = rows.width(0) as usize;
     let count = rows.count(0);
     let mut texts = Vec::with_capacity(alloc, count as usize * width)?;

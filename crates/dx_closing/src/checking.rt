@@ -20,12 +20,7 @@ fn fits(atom: &Atom, target: &Schema) -> bool
 fn all_fit(atoms: &[Atom], target: &Schema) -> bool
     ensures { IsTrue result ↔ Each atoms.now (AtomFits (model_tables target.now)) }
 {
-    for atom in atoms {
-        if !fits(atom, target) {
-            return false;
-        }
-    }
-    true
+    atoms.iter().all(|atom| fits(atom, target))
 }
 
 /// The number after those of the row's existential variables, if `next` is the first that has not appeared. None

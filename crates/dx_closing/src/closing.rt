@@ -12,7 +12,7 @@ use crate::fault::CloseFault;
 use crate::growing::Growing;
 use crate::links::follow_atom;
 use crate::variables::above_all;
-use dx_base::limits::OCCURRENCES;
+use dx_base::limits::{OCCURRENCES, TABLES};
 use dx_model::Rule;
 use dx_schema::Schema;
 use std::alloc::Global;
@@ -42,7 +42,7 @@ pub fn close(alloc: Global, rule: Rule, target: &Schema) -> Result<Rule, CloseFa
         return Err(CloseFault::TooWide);
     }
     // Not the number is wanted, but what the call ensures of the tables of each schema.
-    let _tables = target.tables();
+    prove!(target.tables() as u64 <= TABLES);
     let next = above_all(conclusion.items());
     let mut growing = Growing {
         atoms: conclusion,

@@ -35,12 +35,7 @@ fn is_served(target: &Schema, atoms: &[Atom], link: &Link, cells: &[Cell]) -> bo
     requires within { AllInside link.now.to (table_of (model_tables target.now) link.now.table).width }
     ensures { result ≡ list_any (serves link.now cells.now) atoms.now }
 {
-    for atom in atoms {
-        if serves_link(atom, link, cells) {
-            return true;
-        }
-    }
-    false
+    atoms.iter().any(|atom| serves_link(atom, link, cells))
 }
 
 /// Appends an atom of the referred table with the linked cells.

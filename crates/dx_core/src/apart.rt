@@ -58,7 +58,7 @@ fn never_becomes(
     ensures { result ≡ true → (T : List FactRow) → KnownAreRigid numbers.now T nulls.now known.now
         → NeverMoves T (fact_of numbers.now from) (fact_of numbers.now to) }
 {
-    let _fit = numbers.len();
+    prove!((numbers.len() as u64) < 1 << 32);
     let old_row = numbers.row(from.table, from.place);
     let new_row = numbers.row(to.table, to.place);
     for column in 0..old_row.len() {

@@ -62,7 +62,7 @@ pub(crate) fn atoms_of(
     ensures atoms { IfOk result (λ atoms. AreAtoms numbers.now nulls.now taken.now rows.now atoms.items) }
     ensures fit { IfOk result (λ atoms. Each atoms.items (FitsAtom numbers.now.tables (length nulls.now))) }
 {
-    let _fit = numbers.len();
+    prove!((numbers.len() as u64) < 1 << 32);
     let mut atoms = Vec::new(alloc);
     for at in rows {
         if !taken.has(at.table, at.place) {

@@ -73,7 +73,7 @@ impl<'a> Reduction<'a> {
             (λ at. IsRowIn self.old.numbers at → is_out self.new.taken at.table at.place ≡ true)) }
         ensures others { OnOk result ((t p : ℕ) → is_out self.new.taken t p ≡ false → is_out self.old.taken t p ≡ false) }
     {
-        let _fit = self.numbers.len();
+        prove!((self.numbers.len() as u64) < 1 << 32);
         let mut gone = Vec::new(self.alloc);
         for at in rows {
             if !self.is_left(*at) {
@@ -91,7 +91,7 @@ impl<'a> Reduction<'a> {
         ensures numbers { self.new.numbers ≡ self.old.numbers }
         ensures back { self.new.taken ≡ with_back self.old.taken gone.items }
     {
-        let _fit = self.numbers.len();
+        prove!((self.numbers.len() as u64) < 1 << 32);
         let mut left = gone;
         while let Some(at) = left.pop() {
             self.taken.put_back(at.table, at.place);
@@ -114,7 +114,7 @@ impl<'a> Reduction<'a> {
             (given (pairs_by self.old.numbers task.now.block.now.nulls xs.items)) (facts_left self.old.numbers self.old.taken)
             (map (fact_of self.old.numbers) task.now.block.now.rows) (fact_of self.old.numbers at))) }
     {
-        let _fit = self.numbers.len();
+        prove!((self.numbers.len() as u64) < 1 << 32);
         let nulls = task.block.nulls.items();
         let rows = task.block.rows.items();
         let atoms = atoms_of(self.alloc, &self.numbers, nulls, &self.taken, rows)?;

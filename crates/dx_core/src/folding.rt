@@ -47,7 +47,7 @@ impl<'a> BlockMove<'a> {
         ensures { IfOk result (λ after. AllZip (IsNumberAfter self.now.block.now.nulls self.now.answer.now)
             (row_numbers numbers.now at) after.items) }
     {
-        let _fit = numbers.len();
+        prove!((numbers.len() as u64) < 1 << 32);
         let nulls = self.block.nulls.items();
         let mut after = Vec::new(alloc);
         for number in numbers.row(at.table, at.place) {
@@ -65,7 +65,7 @@ impl<'a> BlockMove<'a> {
             (given (pairs_by numbers.now self.now.block.now.nulls self.now.answer.now)) (fact_of numbers.now at)
             ≡ fact_of numbers.now to)) }
     {
-        let _fit = numbers.len();
+        prove!((numbers.len() as u64) < 1 << 32);
         let after = self.row_after(alloc, numbers, at)?;
         match numbers.find_row(at.table, &after) {
             None => Ok(None),

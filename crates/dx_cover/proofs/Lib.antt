@@ -3,6 +3,7 @@ pub mod Numbers
 pub mod Searching
 pub mod Memory
 pub mod Covering
+pub mod Asked
 pub mod Choosing
 pub mod Pairing
 pub mod Examples

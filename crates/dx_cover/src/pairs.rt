@@ -137,12 +137,7 @@ fn agree(places: &[Place], chosen: &Atom, next: &Atom) -> bool
 {
     let own_cells = chosen.cells.items();
     let its_cells = next.cells.items();
-    for place in places {
-        if !is_same_cell(&own_cells[place.own], &its_cells[place.its]) {
-            return false;
-        }
-    }
-    true
+    places.iter().all(|place| is_same_cell(&own_cells[place.own], &its_cells[place.its]))
 }
 
 /// Whether one of those that are left agrees with what is chosen.
@@ -150,12 +145,7 @@ fn is_supported(places: &[Place], chosen: &Atom, left: &[&Atom]) -> bool
     requires { Each (behind left.now) (λ next. Each places.now (IsWithin chosen.now next)) }
     ensures { result ≡ false → Each (behind left.now) (Disagree places.now chosen.now) }
 {
-    for next in left {
-        if agree(places, chosen, next) {
-            return true;
-        }
-    }
-    false
+    left.iter().any(|next| agree(places, chosen, next))
 }
 
 /// The choice without those that agree with none of those that are left for another atom.

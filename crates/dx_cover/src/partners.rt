@@ -38,12 +38,7 @@ pub(crate) fn has_partner(atom: &Atom, others: &[Atom], bound: &[Meeting]) -> bo
     requires { Each others.now (λ b. atom.now.table ≡ b.table → length atom.now.cells ≡ length b.cells) }
     ensures { result ≡ false → HasNoChoice bound.now others.now atom.now }
 {
-    for other in others {
-        if atom.table == other.table && !is_excluded(atom, other, bound) {
-            return true;
-        }
-    }
-    false
+    others.iter().any(|other| atom.table == other.table && !is_excluded(atom, other, bound))
 }
 
 /// Whether one of the others may still be chosen for each of the rest. If not, no cell map begins with these meetings.
@@ -51,10 +46,5 @@ pub(crate) fn have_partners(rest: &[Atom], others: &[Atom], bound: &[Meeting]) -
     requires { MeetInWidths rest.now others.now }
     ensures { result ≡ false → (i : RuleValue) → maps_under i bound.now rest.now others.now ≡ [] }
 {
-    for atom in rest {
-        if !has_partner(atom, others, bound) {
-            return false;
-        }
-    }
-    true
+    rest.iter().all(|atom| has_partner(atom, others, bound))
 }

@@ -48,15 +48,9 @@ pub(crate) fn first_is(cell: &Cell, meetings: &[Meeting], met: &Cell) -> bool
 pub(crate) fn make_map(meetings: &[Meeting]) -> bool
     ensures { result ≡ is_cell_map meetings.now }
 {
-    for meeting in meetings {
-        if !first_is(&meeting.cell, meetings, &meeting.met) {
-            return false;
-        }
-        if !is_allowed(&meeting.cell, &meeting.met) {
-            return false;
-        }
-    }
-    true
+    meetings.iter().all(|meeting| {
+        first_is(&meeting.cell, meetings, &meeting.met) && is_allowed(&meeting.cell, &meeting.met)
+    })
 }
 
 /// Whether two rows of cells are one.

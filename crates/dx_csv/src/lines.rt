@@ -64,7 +64,7 @@ impl Lines {
         ensures { (records : List (List (List ℕ))) (fields : List (List ℕ)) → HavePrinted self.old records fields
             → HavePrinted self.new records fields }
     {
-        let _ = self.bytes.reserve(more);
+        self.bytes.reserve(more).ok();
     }
 
     /// One field more of the open record.
@@ -193,12 +193,9 @@ impl Lines {
 fn calls_for_quotes(field: &[u8]) -> bool
     ensures { result ≡ needs_quotes default_writer field.now }
 {
-    for byte in field {
-        if matches!(*byte, b',' | b'"' | b'\n' | b'\r') {
-            return true;
-        }
-    }
-    false
+    field
+        .iter()
+        .any(|byte| matches!(*byte, b',' | b'"' | b'\n' | b'\r'))
 }
 
 // The bytes of a field, each quote twice.

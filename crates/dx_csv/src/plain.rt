@@ -51,12 +51,7 @@ fn is_quote(bytes: &[u8], place: usize) -> bool
 fn first_quote(bytes: &[u8], from: usize) -> Option<usize>
     ensures { IfSome result (FirstQuote bytes.now from) }
 {
-    for place in from..bytes.len() {
-        if bytes[place] == b'"' {
-            return Some(place);
-        }
-    }
-    None
+    (from..bytes.len()).find(|place| bytes[*place] == b'"')
 }
 
 // Ends the field that is open with the text between these places, and answers the place after it.

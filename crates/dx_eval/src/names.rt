@@ -16,10 +16,12 @@ pub(crate) fn table_number(schema: &Schema, name: &Text) -> u32
     ensures number { result ≡ table_named (table_names_of schema.now) name.now }
     ensures there { result < length (tables_of schema.now) }
 {
-    // The call tells that names tell the tables apart.
-    let _tables = schema.tables();
     match schema.table_named(name) {
-        Some(number) => number,
+        Some(number) => {
+            // The call tells that names tell the tables apart.
+            prove!(number < schema.tables());
+            number
+        }
         None => unreachable!(),
     }
 }
@@ -39,9 +41,10 @@ pub(crate) fn column_number(schema: &Schema, table: &Text, name: &Text) -> u32
     requires column { name.now ∈ (table_numbered (table_names_of schema.now) (table_named (table_names_of schema.now) table.now)).columns }
     ensures { result ≡ column_named (table_names_of schema.now) (table_named (table_names_of schema.now) table.now) name.now }
 {
+    let number = table_number(schema, table);
     // The call tells that names tell the columns apart.
-    let _tables = schema.tables();
-    match schema.column_named(table_number(schema, table), name) {
+    prove!(number < schema.tables());
+    match schema.column_named(number, name) {
         Some(number) => number,
         None => unreachable!(),
     }

@@ -1,5 +1,5 @@
 -- Determinations of one table, by the first rows that have what others have on the left.
-use Rattle.std.proofs.Common.{◌≡◌, ◌∙◌, ℕ, ◌<◌, ◌≤◌, List, inl, inr, refl, sym, ap, subst, arith, length, map, get_or}
+use Rattle.std.proofs.Common.{◌≡◌, ◌∙◌, ◌+◌, ℕ, ◌<◌, ◌≤◌, List, inl, inr, refl, sym, ap, subst, arith, length, map, get_or}
 use Rattle.std.proofs.lemmas.Bool.{cases_lt}
 use Rattle.std.proofs.lemmas.List.{get_or-map, get_or_default, length-map}
 use Rattle.dx_base.specs.Members.{◌∈◌}
@@ -7,8 +7,8 @@ use Rattle.dx_base.proofs.Members.{in_at}
 use Rattle.dx_model.specs.Tables.{Determination, Table, table_of, values_in, determination_at}
 use Rattle.dx_instance.specs.Stored.{TableRows, facts, rows_of}
 use Rattle.dx_instance.specs.Places.{AreFirsts, row_at, value_at}
-use Rattle.dx_holds.specs.Columns.{IsFirstLike, RowsDetermine}
-use Rattle.dx_holds.proofs.Determining.{DetermineTo, not_behind}
+use Rattle.dx_holds.specs.Columns.{IsFirstLike, RowsAgree, RowsDetermine}
+use Rattle.dx_holds.proofs.Determining.{not_behind}
 use Rattle.dx_fails.specs.declared.broken.Apart.{Apart}
 use Rattle.dx_fails.specs.declared.determining.Determines.{Determines}
 use Rattle.dx_fails.specs.Firsts.{DeterminationHolds}
@@ -16,6 +16,28 @@ use Rattle.dx_fails.specs.Shown.{AllIn, IsFirstApart, IsViolation, IsBrokenIn, a
 use Rattle.dx_fails.proofs.Finding.{determination_holds, fact_there, no_determination}
 
 -- ---- one determination
+
+-- the first n rows have the same on the right if they have the same on the left
+abbrev pub DetermineTo : List TableRows → ℕ → List ℕ → List ℕ → ℕ → Type 0
+DetermineTo I t left right n = (p q : ℕ) → p < q → q < n → RowsAgree I t p left t left q → RowsAgree I t p right t right q
+
+pub determine_more : (I : List TableRows) (t : ℕ) (left right : List ℕ) (n f : ℕ) → IsFirstLike I t left n f → RowsAgree I t f right t right n → DetermineTo I t left right n → DetermineTo I t left right (n + 1)
+determine_more I t left right n f first agree old p q h k same = elim (cases_lt q n) [
+  | inl l ↦ old p q h l same
+  | inr l ↦
+      let d : n ≡ q = omega (arith, h, k, l) in
+      let to_n : values_in left (row_at I t n) ≡ values_in left (row_at I t p) = subst (λ (x : ℕ). values_in left (row_at I t x) ≡ values_in left (row_at I t p)) (sym d) same in
+      let least : f ≤ p = not_behind I t left n f p first (sym to_n) in
+      let one : values_in right (row_at I t p) ≡ values_in right (row_at I t f) = elim (cases_lt f p) [
+        | inl b ↦ old f p b (omega (arith, h, d)) (sym to_n ∙ sym first.3)
+        | inr b ↦ let e : f ≡ p = omega (arith, b, least) in subst (λ (x : ℕ). values_in right (row_at I t x) ≡ values_in right (row_at I t f)) e refl
+      ] in
+      subst (λ (x : ℕ). values_in right (row_at I t x) ≡ values_in right (row_at I t p)) d (agree ∙ sym one)
+]
+
+-- the first rows are all of them
+pub all_determine : (I : List TableRows) (t : ℕ) (left right : List ℕ) (n : ℕ) → length (rows_of I t) ≤ n → DetermineTo I t left right n → RowsDetermine I t left right
+all_determine I t left right n h old p q b r = old p q b (omega (arith, h, r))
 
 -- what is listed for a place is the first that has what it has
 pub first_there : (I : List TableRows) (t : ℕ) (left places : List ℕ) (p f : ℕ) → AreFirsts I t left places → p < length (rows_of I t) → f ≡ get_or places p f

@@ -1,10 +1,10 @@
 -- Lists whose members a computation tells apart, and what it finds of each member.
-use Rattle.std.proofs.Common.{◌≡◌, List, [], ◌∷◌, Bool, true, false, ◌&&◌, sym, ◌∙◌}
+use Rattle.std.proofs.Common.{◌≡◌, List, [], ◌∷◌, Bool, true, false, ◌&&◌, sym}
 use Rattle.std.specs.Prelude.{not}
 use Rattle.std.specs.Cmp.{IsEquivalence}
 use Rattle.std.specs.List.{list_any}
 use Rattle.std.proofs.lemmas.Bool.{and_parts, true≢false}
-use Rattle.dx_base.specs.Members.{◌∈◌, Distinct}
+use Rattle.dx_base.specs.Members.{Distinct}
 use Rattle.dx_base.proofs.Tests.{to_any}
 
 -- by this test no member is a later one

@@ -47,12 +47,7 @@ pub fn is_filled(text: &Text) -> bool
 fn has_digits_alone(text: &Text) -> bool
     ensures { result ≡ list_all is_ascii_digit text.now }
 {
-    for byte in text.bytes() {
-        if !byte.is_ascii_digit() {
-            return false;
-        }
-    }
-    true
+    text.bytes().iter().all(|byte| byte.is_ascii_digit())
 }
 
 /// Whether the text isn't empty and has digits alone.

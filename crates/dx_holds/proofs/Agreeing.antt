@@ -1,14 +1,14 @@
 -- Rows that agree in columns.
-use Rattle.std.proofs.Common.{◌≡◌, ◌∙◌, ℕ, zero, suc, ◌+◌, ◌<◌, ◌≤◌, List, [], ◌∷◌, ◌++◌, inl, inr, sym, ap, subst, arith, length, get_or, take, Bool, true, false}
-use Rattle.std.specs.Prelude.{map, Option, None, Some, is_some, ◌==◌}
-use Rattle.std.proofs.lemmas.Bool.{cases_lt, true≢false, false≢true}
+use Rattle.std.proofs.Common.{◌≡◌, ◌∙◌, ℕ, zero, suc, ◌+◌, ◌<◌, ◌≤◌, List, [], ◌∷◌, ◌++◌, inl, inr, refl, sym, ap, arith, length, get_or, take, Bool, true, false}
+use Rattle.std.specs.Prelude.{map, Option, None, Some, is_some, ◌==◌, IsTrue, ◌↔◌}
+use Rattle.std.proofs.lemmas.Bool.{cases_lt, false≢true}
 use Rattle.std.proofs.lemmas.List.{take_more, take_all, map-append}
 use Rattle.dx_model.specs.declared.values.Value.{Value}
 use Rattle.dx_model.specs.declared.tables.Link.{Link}
 use Rattle.dx_model.specs.Tables.{values_in}
 use Rattle.dx_instance.specs.Stored.{TableRows, rows_of}
 use Rattle.dx_instance.specs.Places.{HasValues, IsFirstWith, NoneWith, row_at, value_at}
-use Rattle.dx_holds.specs.Columns.{RowsAgree, RowsLead}
+use Rattle.dx_holds.specs.Columns.{RowLeads}
 
 -- ---- column by column
 
@@ -34,22 +34,11 @@ pub none_on : (I : List TableRows) (t : ℕ) (columns : List ℕ) (values : List
     → NoneWith I t columns values a m → NoneWith I t (c ∷ []) (x ∷ []) m b → NoneWith I t columns values a b
 none_on I t columns values a m b c x one old none p g k q = elim (cases_lt p m) [ inl l ↦ old p g l q | inr l ↦ none p l k (ap (λ (v : Value). v ∷ []) (one p q)) ]
 
--- ---- all rows
+-- ---- links
 
--- the first n rows have the rows that the link names
-abbrev pub LeadBelow : List TableRows → ℕ → Link → ℕ → Type 0
-LeadBelow I t link n = (p : ℕ) → p < n → (q : ℕ) × (q < length (rows_of I link.table)) × RowsAgree I t p link.from link.table link.to q
-
-pub lead_more : (I : List TableRows) (t n : ℕ) (link : Link) (o : Option ℕ) → is_some o ≡ true → IsFirstWith I link.table link.to (values_in link.from (row_at I t n)) 0 o → LeadBelow I t link n → LeadBelow I t link (n + 1)
-lead_more I t n link None e m old p h = absurd (false≢true e)
-lead_more I t n link (Some q) e m old p h = elim (cases_lt p n) [
-  | inl l ↦ old p l
-  | inr l ↦ let s : n ≡ p = omega (arith, h, l) in (q, m.1, subst (λ (k : ℕ). RowsAgree I t k link.from link.table link.to q) s m.3)
-]
-
-pub not_lead : (I : List TableRows) (t n : ℕ) (link : Link) (o : Option ℕ) → n < length (rows_of I t) → is_some o ≡ false → IsFirstWith I link.table link.to (values_in link.from (row_at I t n)) 0 o → ¬ (RowsLead I t link)
-not_lead I t n link (Some x) h e m r = true≢false e
-not_lead I t n link None h e m r = let k = r n h in m k.0 (omega arith) k.1 k.2
+pub row_leads : (I : List TableRows) (t n : ℕ) (link : Link) (o : Option ℕ) → IsFirstWith I link.table link.to (values_in link.from (row_at I t n)) 0 o → IsTrue (is_some o) ↔ RowLeads I t link n
+row_leads I t n link None m = ((λ e. absurd (false≢true e)), (λ k. absurd (m k.0 (omega arith) k.1 k.2)))
+row_leads I t n link (Some q) m = ((λ e. (q, m.1, m.3)), (λ k. refl))
 
 -- ---- tables
 

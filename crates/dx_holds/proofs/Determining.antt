@@ -17,47 +17,31 @@ not_behind I t columns p q r f e = elim (cases_lt r q) [ inl l ↦ absurd (f.2 r
 
 -- ---- keys
 
--- the first n rows all differ in these columns
-abbrev pub DifferTo : List TableRows → ℕ → List ℕ → ℕ → Type 0
-DifferTo I t columns n = (p q : ℕ) → p < q → q < n → ¬ (RowsAgree I t p columns t columns q)
+-- there is one first
+pub first_once : (I : List TableRows) (t : ℕ) (columns : List ℕ) (p q r : ℕ) → IsFirstLike I t columns p q → IsFirstLike I t columns p r → q ≡ r
+first_once I t columns p q r f g = let a = not_behind I t columns p q r f g.3 in let b = not_behind I t columns p r q g f.3 in omega (arith, a, b)
 
-pub differ_more : (I : List TableRows) (t : ℕ) (columns : List ℕ) (n q : ℕ) → IsFirstLike I t columns n q → q ≡ n → DifferTo I t columns n → DifferTo I t columns (n + 1)
-differ_more I t columns n q f e old a b h k agree = elim (cases_lt b n) [
-  | inl l ↦ old a b h l agree
-  | inr l ↦
-      let d : b ≡ n = omega (arith, h, k, l) in
-      let same : values_in columns (row_at I t a) ≡ values_in columns (row_at I t n) = subst (λ (x : ℕ). values_in columns (row_at I t a) ≡ values_in columns (row_at I t x)) d (sym agree) in
-      absurd (omega (arith, e, d, h, not_behind I t columns n q a f same))
-]
+-- rows that have the same values have the same first
+pub first_of_same : (I : List TableRows) (t : ℕ) (columns : List ℕ) (p q f : ℕ) → values_in columns (row_at I t q) ≡ values_in columns (row_at I t p) → IsFirstLike I t columns q f → IsFirstLike I t columns p f
+first_of_same I t columns p q f e h = (h.0, h.1, (λ r l u s. h.2 r l u (s ∙ sym e)), h.3 ∙ e)
 
-first_before : (I : List TableRows) (t : ℕ) (columns : List ℕ) (n q : ℕ) → IsFirstLike I t columns n q → ¬ (q ≡ n) → q < n
-first_before I t columns n q f e = let b = not_behind I t columns n q n f refl in elim (cases_lt q n) [ inl l ↦ l | inr l ↦ absurd (e (omega (arith, b, l))) ]
+-- if each row is the first that has its values, then all differ
+pub all_differ : (I : List TableRows) (t : ℕ) (columns : List ℕ) → ((x : ℕ) → x < length (rows_of I t) → IsFirstLike I t columns x x) → RowsDiffer I t columns
+all_differ I t columns firsts p q b r agree = (firsts q r).2 p (omega arith) b (sym agree)
 
-pub not_differ : (I : List TableRows) (t : ℕ) (columns : List ℕ) (n q : ℕ) → n < length (rows_of I t) → IsFirstLike I t columns n q → ¬ (q ≡ n) → ¬ (RowsDiffer I t columns)
-not_differ I t columns n q h f e d = d q n (first_before I t columns n q f e) h (sym f.3)
-
-pub all_differ : (I : List TableRows) (t : ℕ) (columns : List ℕ) (n : ℕ) → length (rows_of I t) ≤ n → DifferTo I t columns n → RowsDiffer I t columns
-all_differ I t columns n h old p q b r = old p q b (omega (arith, h, r))
+-- if all differ, then each row is the first that has its values
+pub each_first : (I : List TableRows) (t : ℕ) (columns : List ℕ) (x : ℕ) → x < length (rows_of I t) → RowsDiffer I t columns → IsFirstLike I t columns x x
+each_first I t columns x h d = (omega arith, h, (λ p l b same. d p x b h (sym same)), refl)
 
 -- ---- dependencies
 
--- the first n rows have the same on the right if they have the same on the left
-abbrev pub DetermineTo : List TableRows → ℕ → List ℕ → List ℕ → ℕ → Type 0
-DetermineTo I t left right n = (p q : ℕ) → p < q → q < n → RowsAgree I t p left t left q → RowsAgree I t p right t right q
+-- the first that has the row's values on the left has its values on the right
+abbrev pub AgreesWithFirst : List TableRows → ℕ → List ℕ → List ℕ → ℕ → Type 0
+AgreesWithFirst I t left right x = (f : ℕ) × IsFirstLike I t left x f × RowsAgree I t f right t right x
 
-pub determine_more : (I : List TableRows) (t : ℕ) (left right : List ℕ) (n f : ℕ) → IsFirstLike I t left n f → RowsAgree I t f right t right n → DetermineTo I t left right n → DetermineTo I t left right (n + 1)
-determine_more I t left right n f first agree old p q h k same = elim (cases_lt q n) [
-  | inl l ↦ old p q h l same
-  | inr l ↦
-      let d : n ≡ q = omega (arith, h, k, l) in
-      let to_n : values_in left (row_at I t n) ≡ values_in left (row_at I t p) = subst (λ (x : ℕ). values_in left (row_at I t x) ≡ values_in left (row_at I t p)) (sym d) same in
-      let least : f ≤ p = not_behind I t left n f p first (sym to_n) in
-      let one : values_in right (row_at I t p) ≡ values_in right (row_at I t f) = elim (cases_lt f p) [
-        | inl b ↦ old f p b (omega (arith, h, d)) (sym to_n ∙ sym first.3)
-        | inr b ↦ let e : f ≡ p = omega (arith, b, least) in subst (λ (x : ℕ). values_in right (row_at I t x) ≡ values_in right (row_at I t f)) e refl
-      ] in
-      subst (λ (x : ℕ). values_in right (row_at I t x) ≡ values_in right (row_at I t p)) d (agree ∙ sym one)
-]
+-- it has others there
+abbrev pub DiffersFromFirst : List TableRows → ℕ → List ℕ → List ℕ → ℕ → Type 0
+DiffersFromFirst I t left right x = (f : ℕ) × IsFirstLike I t left x f × ¬ (RowsAgree I t f right t right x)
 
 pub not_determine : (I : List TableRows) (t : ℕ) (left right : List ℕ) (n f : ℕ) → n < length (rows_of I t) → IsFirstLike I t left n f → RowsDetermine I t left right → RowsAgree I t f right t right n
 not_determine I t left right n f h first all =
@@ -67,5 +51,10 @@ not_determine I t left right n f h first all =
       | inr l ↦ let e : f ≡ n = omega (arith, b, l) in subst (λ (x : ℕ). values_in right (row_at I t x) ≡ values_in right (row_at I t f)) e refl
     ]
 
-pub all_determine : (I : List TableRows) (t : ℕ) (left right : List ℕ) (n : ℕ) → length (rows_of I t) ≤ n → DetermineTo I t left right n → RowsDetermine I t left right
-all_determine I t left right n h old p q b r = old p q b (omega (arith, h, r))
+pub all_determine : (I : List TableRows) (t : ℕ) (left right : List ℕ) → ((x : ℕ) → x < length (rows_of I t) → AgreesWithFirst I t left right x) → RowsDetermine I t left right
+all_determine I t left right agree p q b r same =
+    let a = agree q r in
+    let d = agree p (omega (arith, b, r)) in
+    let e : a.0 ≡ d.0 = first_once I t left p a.0 d.0 (first_of_same I t left p q a.0 same a.1) d.1 in
+    let mine : values_in right (row_at I t p) ≡ values_in right (row_at I t a.0) = subst (λ (x : ℕ). values_in right (row_at I t p) ≡ values_in right (row_at I t x)) (sym e) d.2 in
+    a.2 ∙ sym mine

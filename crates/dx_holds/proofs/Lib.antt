@@ -1,3 +1,4 @@
+pub mod Asking
 pub mod Agreeing
 pub mod Determining
 pub mod Tables

@@ -38,11 +38,13 @@ TableHolds I t table =
 abbrev pub IsFirstLike : List TableRows → ℕ → List ℕ → ℕ → ℕ → Type 0
 IsFirstLike I t columns p q = IsFirstWith I t columns (values_in columns (row_at I t p)) 0 (Some q)
 
+-- the row at place p has the row that the link names
+abbrev pub RowLeads : List TableRows → ℕ → Link → ℕ → Type 0
+RowLeads I t link p = (q : ℕ) × (q < length (rows_of I link.table)) × RowsAgree I t p link.from link.table link.to q
+
 -- each row of the table has the row that the link names
 abbrev pub RowsLead : List TableRows → ℕ → Link → Type 0
-RowsLead I t link =
-    (p : ℕ) → p < length (rows_of I t)
-    → (q : ℕ) × (q < length (rows_of I link.table)) × RowsAgree I t p link.from link.table link.to q
+RowsLead I t link = (p : ℕ) → p < length (rows_of I t) → RowLeads I t link p
 
 -- a link goes from columns of the table to as many columns of a table
 pub record LinkFitsInstance (I : List TableRows) (width : ℕ) (link : Link) : Type 0 where

@@ -49,7 +49,7 @@ impl<'a> Seen<'a> {
         ensures { IsFirstWith self.now.instance.now table columns.now (seen_values self.now) from result }
     {
         let instance = self.instance;
-        let _few = instance.tables();
+        prove!(table < instance.tables());
         if columns.is_empty() {
             return instance.with_columns(table, &[], &[], from);
         }

@@ -4,7 +4,7 @@ ghost use Rattle.dx_base.specs.Members.{◌∈◌, Each};
 ghost use Rattle.dx_model.specs.Tables.{KeysHold};
 ghost use Rattle.dx_schema.specs.Tables.{model_tables, schema_widths, schema_table};
 ghost use Rattle.dx_instance.specs.Stored.{facts, rows_of, table_at, widths};
-ghost use Rattle.dx_holds.specs.Columns.{IsFirstLike, RowsDetermine, RowsDiffer, TableHolds};
+ghost use Rattle.dx_holds.specs.Columns.{IsFirstLike, RowsAgree, RowsDetermine, RowsDiffer, TableHolds};
 
 use crate::columns::Seen;
 use dx_instance::Instance;
@@ -29,19 +29,47 @@ fn first_like(instance: &Instance, table: u32, columns: &[u32], place: u32) -> u
     }
 }
 
+/// Whether a row is the first of those that have the same values in these columns as it has.
+fn is_first_like(instance: &Instance, table: u32, columns: &[u32], place: u32) -> bool
+    requires table { table < length instance.now }
+    requires columns { (c : ℕ) → c ∈ columns.now → c < (table_at instance.now table).width }
+    requires place { place < length (rows_of instance.now table) }
+    ensures { IsTrue result ↔ IsFirstLike instance.now table columns.now place place }
+{
+    first_like(instance, table, columns, place) == place
+}
+
 /// Whether no two rows of the table have the same values in these columns.
 fn differ_in(instance: &Instance, table: u32, columns: &[u32]) -> bool
     requires table { table < length instance.now }
     requires columns { (c : ℕ) → c ∈ columns.now → c < (table_at instance.now table).width }
     ensures { IsTrue result ↔ RowsDiffer instance.now table columns.now }
 {
-    for place in 0..instance.count(table) {
-        let first = first_like(instance, table, columns, place);
-        if first != place {
-            return false;
-        }
-    }
-    true
+    (0..instance.count(table)).all(|place| is_first_like(instance, table, columns, place))
+}
+
+/// Whether a row has in the columns on the right what the first row has that has its values in those on the left.
+fn agrees_with_first(
+    instance: &Instance,
+    table: u32,
+    left: &[u32],
+    right: &[u32],
+    place: u32,
+) -> bool
+    requires table { table < length instance.now }
+    requires left { (c : ℕ) → c ∈ left.now → c < (table_at instance.now table).width }
+    requires right { (c : ℕ) → c ∈ right.now → c < (table_at instance.now table).width }
+    requires place { place < length (rows_of instance.now table) }
+    ensures { (first : ℕ) × IsFirstLike instance.now table left.now place first
+        × (IsTrue result ↔ RowsAgree instance.now table first right.now table right.now place) }
+{
+    let first = Seen {
+        instance,
+        table,
+        place: first_like(instance, table, left, place),
+        columns: right,
+    };
+    first.agrees(table, right, place)
 }
 
 /// Whether rows of the table that have the same values in the columns on the left have the same in those on the right. Each
@@ -52,18 +80,7 @@ fn determine(instance: &Instance, table: u32, left: &[u32], right: &[u32]) -> bo
     requires right { (c : ℕ) → c ∈ right.now → c < (table_at instance.now table).width }
     ensures { IsTrue result ↔ RowsDetermine instance.now table left.now right.now }
 {
-    for place in 0..instance.count(table) {
-        let first = Seen {
-            instance,
-            table,
-            place: first_like(instance, table, left, place),
-            columns: right,
-        };
-        if !first.agrees(table, right, place) {
-            return false;
-        }
-    }
-    true
+    (0..instance.count(table)).all(|place| agrees_with_first(instance, table, left, right, place))
 }
 
 /// Whether the keys of one table hold.
@@ -72,13 +89,11 @@ fn table_keys_hold(schema: &Schema, instance: &Instance, table: u32) -> bool
     requires table { table < length instance.now }
     ensures { IsTrue result ↔ Each (schema_table schema.now table).keys (λ k. RowsDiffer instance.now table k.columns) }
 {
-    let _fits = schema.tables();
-    for key in schema.keys_of(table) {
-        if !differ_in(instance, table, key.columns.items()) {
-            return false;
-        }
-    }
-    true
+    prove!(table < schema.tables());
+    schema
+        .keys_of(table)
+        .iter()
+        .all(|key| differ_in(instance, table, key.columns.items()))
 }
 
 /// Whether the dependencies of one table hold.
@@ -87,13 +102,13 @@ fn table_deps_hold(schema: &Schema, instance: &Instance, table: u32) -> bool
     requires table { table < length instance.now }
     ensures { IsTrue result ↔ Each (schema_table schema.now table).deps (λ d. RowsDetermine instance.now table d.columns d.decides) }
 {
-    let _fits = schema.tables();
-    for dep in schema.deps_of(table) {
-        if !determine(instance, table, dep.columns.items(), dep.decides.items()) {
-            return false;
-        }
-    }
-    true
+    prove!(table < schema.tables());
+    schema.deps_of(table).iter().all(|dep| determine(
+        instance,
+        table,
+        dep.columns.items(),
+        dep.decides.items(),
+    ))
 }
 
 /// Whether the keys and the dependencies of one table hold.
@@ -112,10 +127,5 @@ pub fn keys_hold(schema: &Schema, instance: &Instance) -> bool
     requires { widths instance.now ≡ schema_widths schema.now }
     ensures { IsTrue result ↔ KeysHold (model_tables schema.now) (facts instance.now) }
 {
-    for table in 0..instance.tables() {
-        if !table_holds(schema, instance, table) {
-            return false;
-        }
-    }
-    true
+    (0..instance.tables()).all(|table| table_holds(schema, instance, table))
 }

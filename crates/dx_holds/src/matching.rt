@@ -30,12 +30,10 @@ pub struct Found {
 pub(crate) fn found_at(found: &[Found], variable: u32) -> Option<Found>
     ensures { MatchOption result (¬ (variable ∈ found_variables found.now)) (λ b. (b ∈ found.now) × (b.variable ≡ variable)) }
 {
-    for entry in found {
-        if entry.variable == variable {
-            return Some(*entry);
-        }
-    }
-    None
+    found
+        .iter()
+        .find(|entry| entry.variable == variable)
+        .copied()
 }
 
 /// A copy of the value, which takes no memory. None if its text has too many owners.
@@ -130,7 +128,7 @@ fn meet_row(question: &Question, found: &mut Vec<Found>, atom: &Atom, place: u32
     ensures capacity { vec_capacity found.new ≡ vec_capacity found.old }
     ensures cases { Settles result question.now.target.now found.old found.new (SaysRow question.now atom.now place) }
 {
-    let _wide = question.target.tables();
+    prove!(atom.table < question.target.tables());
     let cells = atom.cells.items();
     for column in 0..question.target.width(atom.table) {
         let cell = &cells[column as usize];
@@ -191,7 +189,7 @@ pub(crate) fn next_place(
         ((found.new.items ≡ found.old.items) × NowhereFrom question.now found.old.items atom.now from)
         (λ p. IsNextMatch question.now found.old.items atom.now from p × FindsRow question.now found.old found.new atom.now p) }
 {
-    let _few = question.target.tables();
+    prove!(atom.table < question.target.tables());
     let mark = found.len();
     let mut next = from;
     while let Some(place) = candidate(question, found.as_slice(), atom, next) {

@@ -2,6 +2,7 @@
 ghost use Rattle.std.specs.Prelude.{◌≡◌, ◌↔◌, ◌<◌, ◌≤◌, ℕ, IsTrue, IfSome, MatchBool, MatchOption, length, vec_capacity};
 ghost use Rattle.dx_base.specs.Members.{◌∈◌, IsPrefix};
 ghost use Rattle.dx_model.specs.declared.rules.Cell.TheVariants.{Ex};
+ghost use Rattle.dx_model.specs.Rules.{atom_at};
 ghost use Rattle.dx_holds.specs.Searching.{HasRoomForAtoms, IsAtomWanted, NoneLeft, found_variables};
 ghost use Rattle.dx_holds.specs.Questions.{IsStateOf, RestFails};
 
@@ -9,18 +10,21 @@ use crate::matching::{Found, found_at, next_place};
 use crate::question::Question;
 use dx_model::{Atom, Cell};
 
+/// Whether the cell is a variable that was found.
+fn is_found(cell: &Cell, found: &[Found]) -> bool
+    ensures { IsTrue result ↔ ((v : ℕ) × (cell.now ≡ Ex v) × (v ∈ found_variables found.now)) }
+{
+    match cell {
+        Cell::Ex(variable) => found_at(found, *variable).is_some(),
+        _ => false,
+    }
+}
+
 /// Whether one of the cells is a variable that was found.
 fn has_found(cells: &[Cell], found: &[Found]) -> bool
     ensures { IsTrue result ↔ ((v : ℕ) × (Ex v ∈ cells.now) × (v ∈ found_variables found.now)) }
 {
-    for cell in cells {
-        if let Cell::Ex(variable) = cell {
-            if found_at(found, *variable).is_some() {
-                return true;
-            }
-        }
-    }
-    false
+    cells.iter().any(|cell| is_found(cell, found))
 }
 
 /// Whether the atom is wanted: each is, or those that have a variable that was found since.
@@ -38,12 +42,22 @@ fn is_wanted(atom: &Atom, found: &[Found], since: Option<usize>) -> bool
 fn is_done(done: &[usize], atom: usize) -> bool
     ensures { IsTrue result ↔ (atom ∈ done.now) }
 {
-    for other in done {
-        if *other == atom {
-            return true;
-        }
-    }
-    false
+    done.contains(&atom)
+}
+
+/// Whether an atom, by its place, is wanted and not done.
+fn is_next(
+    atoms: &[Atom],
+    found: &[Found],
+    done: &[usize],
+    since: Option<usize>,
+    place: usize,
+) -> bool
+    requires since { IfSome since (λ m. m ≤ length found.now) }
+    requires place { place < length atoms.now }
+    ensures { IsTrue result ↔ ((¬ (place ∈ done.now)) × IsAtomWanted found.now since (atom_at atoms.now place)) }
+{
+    !is_done(done, place) && is_wanted(&atoms[place], found, since)
 }
 
 /// The first atom that is wanted and not done.
@@ -51,14 +65,7 @@ fn next_atom(atoms: &[Atom], found: &[Found], done: &[usize], since: Option<usiz
     requires { IfSome since (λ m. m ≤ length found.now) }
     ensures { MatchOption result (NoneLeft atoms.now found.now done.now since) (λ i. (i < length atoms.now) × ¬ (i ∈ done.now)) }
 {
-    for i in 0..atoms.len() {
-        if !is_done(done, i) {
-            if is_wanted(&atoms[i], found, since) {
-                return Some(i);
-            }
-        }
-    }
-    None
+    (0..atoms.len()).find(|place| is_next(atoms, found, done, since, *place))
 }
 
 /// Finds values with which all wanted atoms are facts, beside those that are done. An atom that shares a variable with

@@ -1,13 +1,11 @@
 -- Rows of numbers that lie one after the other.
-use Rattle.std.proofs.Common.{◌≡◌, ◌∙◌, ◌+◌, ◌*◌, ◌<◌, ◌≤◌, ◌-◌, ◌++◌, ◌∷◌, ℕ, zero, suc, List, [], refl, sym, ap, subst, arith, length, get_or, take, drop, map, inl, inr, add-one, below_more, not, false, set}
-use Rattle.std.specs.Bool.{◌==◌}
-use Rattle.std.specs.Ordering.{ordering_index}
+use Rattle.std.proofs.Common.{◌≡◌, ◌∙◌, ◌+◌, ◌*◌, ◌<◌, ◌≤◌, ◌-◌, ◌++◌, ◌∷◌, ℕ, zero, suc, List, [], refl, sym, ap, subst, arith, length, get_or, take, drop, map, inl, inr, add-one, below_more, true, set}
+use Rattle.std.specs.Ordering.{is_lt}
 use Rattle.std.specs.declared.cmp.Ordering.{Ordering}
 use Rattle.std.specs.declared.cmp.Ordering.TheVariants.{Less, Equal, Greater}
 use Rattle.std.proofs.lemmas.Bool.{cases_lt}
 use Rattle.std.proofs.lemmas.Cmp.{nat_list_cmp_total}
 use Rattle.std.proofs.lemmas.List.{ext_get_or, get_or-map, get_or-set_other, get_or-set_same, length-map, length-set, length-drop, length-take-le, get_or-take, get_or-drop, get_or_default, take-map, drop-map, take_more, drop-drop, take_all, take-append-le, drop-append-le, nil_from_length}
-use Rattle.std.proofs.lemmas.List.Quantifiers.{all_pairs_push}
 use Rattle.dx_base.specs.Members.{◌∈◌, here, there, Each}
 use Rattle.dx_base.proofs.Members.{from_append, in_at}
 use Rattle.dx_instance.specs.Cells.{NumberTable, NumbersAscend, rows_of_cells, numbers_at}
@@ -116,31 +114,21 @@ pub replaced_all : (f : ℕ → ℕ) (cells new : List ℕ) (n : ℕ) → length
 replaced_all f cells new n h a =
     ext_get_or 0 new (map f cells) (a.many ∙ sym (length-map cells f)) (λ k b. a.done k (omega (arith, b, h, a.many)) ∙ sym (get_or-map f cells k 0 0 (omega (arith, b, a.many))))
 
-pub ascends_first : (rows : List (List ℕ)) → NumbersAscend (take 1 rows)
-ascends_first [] i j d h k = absurd (omega arith)
-ascends_first (r ∷ rows) i j d h k = absurd (omega arith)
-
--- one row more that is above the one before it
-pub ascends_more : (rows : List (List ℕ)) (i : ℕ) (a b : List ℕ) → 0 < i → i < length rows → a ≡ numbers_at rows (i - 1) → b ≡ numbers_at rows i → numbers_cmp a b ≡ Less → NumbersAscend (take i rows) → NumbersAscend (take (i + 1) rows)
-ascends_more rows i a b z h p q l up = rw (take_more rows i [] h) (all_pairs_push (λ r s. numbers_cmp r s ≡ Less) (take i rows) (numbers_at rows i) up under)
+-- rows of which each is below the next ascend
+pub ascends_by_steps : (rows : List (List ℕ)) → ((k : ℕ) → 1 ≤ k → k < length rows → true ≡ is_lt (numbers_cmp (numbers_at rows (k - 1)) (numbers_at rows k))) → NumbersAscend rows
+ascends_by_steps rows up i j d low h = rw (get_or_default rows i d [] (omega (arith, low, h)), get_or_default rows j d [] h) (under i j low h)
   where
-    less : numbers_cmp (numbers_at rows (i - 1)) (numbers_at rows i) ≡ Less
-    less = rw (← p, ← q) l
+    less : (o : Ordering) → true ≡ is_lt o → o ≡ Less
+    less Less e = refl
+    less Equal e = absurd (cc e)
+    less Greater e = absurd (cc e)
 
-    before : (d : List ℕ) → get_or (take i rows) (i - 1) d ≡ numbers_at rows (i - 1)
-    before d = get_or-take i rows (i - 1) d (omega (arith, z)) ∙ get_or_default rows (i - 1) d [] (omega (arith, h))
-
-    under : (k : ℕ) (d : List ℕ) → k < length (take i rows) → numbers_cmp (get_or (take i rows) k d) (numbers_at rows i) ≡ Less
-    under k d c =
-        let m = length-take-le i rows (omega (arith, h)) in
-        elim (cases_lt k (i - 1)) [
-          | inl b ↦
-              let f = up k (i - 1) d b (omega (arith, m, z)) in
-              nat_list_cmp_total.trans (get_or (take i rows) k d) (numbers_at rows (i - 1)) (numbers_at rows i) (rw (before d) at f) less
-          | inr b ↦ let s : k ≡ i - 1 = omega (arith, b, c, m) in rw (s, before d) less
+    under : (i j : ℕ) → i < j → j < length rows → numbers_cmp (numbers_at rows i) (numbers_at rows j) ≡ Less
+    under i zero l c = absurd (omega (arith, l))
+    under i (suc j) l c =
+        let s : suc j - 1 ≡ j = omega arith in
+        let next : numbers_cmp (numbers_at rows j) (numbers_at rows (suc j)) ≡ Less = rw s at (less (numbers_cmp (numbers_at rows (suc j - 1)) (numbers_at rows (suc j))) (up (suc j) (omega arith) c)) in
+        elim (cases_lt i j) [
+          | inl b ↦ nat_list_cmp_total.trans (numbers_at rows i) (numbers_at rows j) (numbers_at rows (suc j)) (under i j b (omega (arith, c))) next
+          | inr b ↦ let q : i ≡ j = omega (arith, b, l) in rw q next
         ]
-
-pub is_less : (o : Ordering) → not (ordering_index o == 0) ≡ false → o ≡ Less
-is_less Less e = refl
-is_less Equal e = absurd (cc e)
-is_less Greater e = absurd (cc e)

@@ -32,3 +32,4 @@ pub mod NullOrderFacts
 pub mod PartsFacts
 pub mod Placed
 pub mod ValueNumbers
+pub mod AskedFacts

@@ -2,11 +2,14 @@
 use Rattle.std.proofs.Common.{◌≡◌, ◌∙◌, ◌+◌, ◌-◌, ◌<◌, ◌≤◌, ◌++◌, ◌∷◌, ℕ, suc, zero, Bool, List, [], true, false, Some, None, cond, refl, sym, ap, subst, arith, length, get_or, inl, inr, append_assoc, append-nil}
 use Rattle.std.specs.FinMap.{find}
 use Rattle.std.specs.Bool.{OnTrue}
-use Rattle.std.specs.Ordering.{is_eq, is_lt, ordering_reverse}
+use Rattle.std.specs.List.{HoldsAt}
+use Rattle.std.specs.List.Sorted.{IsNonDecreasingBy, IsPartitionPoint, IsSortedBy}
+use Rattle.std.specs.Ordering.{is_eq, is_lt, ordering_index, ordering_reverse}
 use Rattle.std.specs.declared.cmp.Ordering.{Ordering}
 use Rattle.std.specs.declared.cmp.Ordering.TheVariants.{Less, Equal, Greater}
 use Rattle.std.proofs.lemmas.Bool.{cases_Bool, cases_lt}
 use Rattle.std.proofs.lemmas.List.{get_or_default, length-append, nil_from_length}
+use Rattle.std.proofs.lemmas.List.Sorted.{searchable_from_sorted}
 use Rattle.dx_model.specs.declared.values.NullId.{NullId}
 use Rattle.dx_model.specs.declared.values.Value.{Value}
 use Rattle.dx_model.specs.declared.values.Value.TheVariants.{Null}
@@ -234,12 +237,6 @@ search_below ps d m n up h l k i = elim (cases_lt k m) [
   | inr b ↦ let e : k ≡ m = omega (arith, b, i) in rw e l
 ]
 
-search_above : (ps : List NullPair) (d : NullPair) (m : ℕ) (n : NullId) → PairsAscend ps → null_cmp (get_or ps m d).null n ≡ Greater → (k : ℕ) → m ≤ k → k < length ps → null_cmp (get_or ps k d).null n ≡ Greater
-search_above ps d m n up g k i h = elim (cases_lt m k) [
-  | inl a ↦ above n (get_or ps k d).null (null_total.trans n (get_or ps m d).null (get_or ps k d).null (below (get_or ps m d).null n g) (pairs_rise ps d m k up a h))
-  | inr b ↦ let e : k ≡ m = omega (arith, b, i) in rw e g
-]
-
 -- what is found stands there, and what isn't found isn't listed
 search_found : (ps : List NullPair) (d : NullPair) (m : ℕ) (n : NullId) → PairsAscend ps → m < length ps → null_cmp (get_or ps m d).null n ≡ Equal → Some (get_or ps m d).value ≡ find null_cmp n (entries_in ps)
 search_found [] d m n up h e = absurd (omega (arith, h))
@@ -266,7 +263,7 @@ unfound (p ∷ ps) n all = elim (cases_Bool (is_eq (null_cmp n p.null))) [
     turned Equal e t = null_total.antisymm p.null n ∙ ap ordering_reverse e
     turned Greater e t = absurd (cc (rw e at t))
 
-pub search_missed : (ps : List NullPair) (low high : ℕ) (n : NullId) → high ≤ low → ((k : ℕ) (d : NullPair) → k < low → null_cmp (get_or ps k d).null n ≡ Less)
+search_missed : (ps : List NullPair) (low high : ℕ) (n : NullId) → high ≤ low → ((k : ℕ) (d : NullPair) → k < low → null_cmp (get_or ps k d).null n ≡ Less)
     → ((k : ℕ) (d : NullPair) → high ≤ k → k < length ps → null_cmp (get_or ps k d).null n ≡ Greater) → None ≡ find null_cmp n (entries_in ps)
 search_missed ps low high n done down up = unfound ps n (λ p i e. by p i e)
   where
@@ -279,17 +276,23 @@ search_missed ps low high n done down up = unfound ps n (λ p i e. by p i e)
           | inr b ↦ let g : null_cmp p.null n ≡ Greater = rw s at (up c.0 p (omega (arith, b, done)) c.1) in cc (g, e)
         ]
 
--- the same of the pair at the middle
-pub below_now : (ps : List NullPair) (p : NullPair) (m : ℕ) (n : NullId) → PairsAscend ps → m < length ps → p ≡ get_or ps m p → null_cmp p.null n ≡ Less
-    → (k : ℕ) (d : NullPair) → k < m + 1 → null_cmp (get_or ps k d).null n ≡ Less
-below_now ps p m n up h e l k d i = search_below ps d m n up h (subst (λ (q : NullPair). null_cmp q.null n ≡ Less) (e ∙ get_or_default ps m p d h) l) k i
+-- ascending pairs may be searched for a null
+falls : (ps : List NullPair) → PairsAscend ps → IsSortedBy (λ a b. is_lt (null_cmp a.null b.null)) ps
+falls ps up k d low h =
+    let e = pairs_rise ps d k (k + 1) up (omega arith) h in
+    let t = null_total.antisymm (get_or ps (k + 1) d).null (get_or ps k d).null in
+    ap is_lt (t ∙ ap ordering_reverse e)
 
-pub above_now : (ps : List NullPair) (p : NullPair) (m : ℕ) (n : NullId) → PairsAscend ps → m < length ps → p ≡ get_or ps m p → null_cmp p.null n ≡ Greater
-    → (k : ℕ) (d : NullPair) → m ≤ k → k < length ps → null_cmp (get_or ps k d).null n ≡ Greater
-above_now ps p m n up h e g k d i j = search_above ps d m n up (subst (λ (q : NullPair). null_cmp q.null n ≡ Greater) (e ∙ get_or_default ps m p d h) g) k i j
+-- the pair that a binary search found
+pub pair_found : (ps : List NullPair) (p : NullPair) (m : ℕ) (n : NullId) → PairsAscend ps → m < length ps → HoldsAt (λ (q : NullPair). null_cmp q.null n ≡ Equal) ps m → Some (get_or ps m p).value ≡ find null_cmp n (entries_in ps)
+pair_found ps p m n up h s = search_found ps p m n up h (s p)
 
-pub found_now : (ps : List NullPair) (p : NullPair) (m : ℕ) (n : NullId) → PairsAscend ps → m < length ps → p ≡ get_or ps m p → null_cmp p.null n ≡ Equal → Some p.value ≡ find null_cmp n (entries_in ps)
-found_now ps p m n up h e s = ap (λ (q : NullPair). Some q.value) e ∙ search_found ps p m n up h (subst (λ (q : NullPair). null_cmp q.null n ≡ Equal) e s)
+-- a null that a binary search did not find is not listed
+pub pair_missed : (ps : List NullPair) (m : ℕ) (n : NullId) → PairsAscend ps
+    → (IsNonDecreasingBy (λ (q : NullPair). ordering_index (null_cmp q.null n)) ps → IsPartitionPoint (λ (q : NullPair). null_cmp q.null n ≡ Less) (λ (q : NullPair). null_cmp q.null n ≡ Greater) ps m) → None ≡ find null_cmp n (entries_in ps)
+pair_missed ps m n up found =
+    let parts = found (searchable_from_sorted null_total (λ (p : NullPair). p.null) ps n (falls ps up)) in
+    search_missed ps m m n (omega arith) (λ k d l. parts.0 k d (omega arith) l) (λ k d l h. parts.1 k d l h)
 
 -- a null above the last pair is above all
 above_last : (ps : List NullPair) (d : NullPair) (n : NullId) → PairsAscend ps → null_cmp (get_or ps (length ps - 1) d).null n ≡ Less → Each ps (λ (p : NullPair). null_cmp p.null n ≡ Less)

@@ -7,7 +7,7 @@ use Rattle.std.proofs.lemmas.Bool.{cases_Bool, cases_lt}
 use Rattle.std.proofs.lemmas.List.Sums.{count_by_more_yes, count_by_more_no}
 use Rattle.dx_model.specs.Tables.{cell}
 use Rattle.dx_instance.specs.Indexes.{IsNextWithNumber, NoNumber}
-use Rattle.dx_instance.specs.Places.{HasValues, NoneWith}
+use Rattle.dx_instance.specs.Places.{HasValues, IsFirstWith, NoneWith}
 use Rattle.dx_model.specs.Covers.{same_value}
 use Rattle.dx_instance.proofs.NumberFacts.{there_at}
 use Rattle.dx_instance.proofs.ShownFacts.{cell_below, value_shown, number_same}
@@ -221,3 +221,10 @@ few_read S ts I n t f v h r = (fits_in S ts n t f (table_within S ts I n v h) r)
 -- a row that has not the values
 pub none_more : (I : List TableRows) (t : ℕ) (columns : List ℕ) (values : List Value) (a p : ℕ) → NoneWith I t columns values a p → ¬ (HasValues I t columns values p) → NoneWith I t columns values a (p + 1)
 none_more I t columns values a p n h q g c e = elim (cases_lt q p) [ inl k ↦ n q g k e | inr k ↦ let s : q ≡ p = omega (arith, c, k) in h (subst (λ (x : ℕ). HasValues I t columns values x) s e) ]
+
+-- what `find` over the places of rows answers
+pub first_with : (I : List TableRows) (t : ℕ) (columns : List ℕ) (values : List Value) (a e : ℕ) (o : Option ℕ) → e ≡ length (rows_of I t)
+    → MatchOption o ((k : ℕ) → a ≤ k → k < e → ¬ (HasValues I t columns values k)) (λ i. (a ≤ i) × (i < e) × HasValues I t columns values i × ((k : ℕ) → a ≤ k → k < i → ¬ (HasValues I t columns values k)))
+    → IsFirstWith I t columns values a o
+first_with I t columns values a e None s h = λ k l u. h k l (omega (arith, u, s))
+first_with I t columns values a e (Some i) s h = (h.0, omega (arith, h.1, s), h.3, h.2)

@@ -61,7 +61,7 @@ impl Rows {
         ensures { self.new ≡ self.old }
     {
         let cells = (more as usize).saturating_mul(self.width as usize);
-        let _ = self.cells.reserve(cells);
+        self.cells.reserve(cells).ok();
     }
 
     /// Rows whose cells are these, row by row.
@@ -132,7 +132,7 @@ impl Rows {
     {
         self.cells.reserve(row.len())?;
         chains.push(key)?;
-        let _ = self.cells.extend_from_slice(row);
+        self.cells.extend_from_slice(row).unwrap();
         self.count += 1;
         Ok(())
     }
@@ -272,12 +272,7 @@ impl Rows {
     fn is_ascending(&self) -> bool
         ensures { OnTrue result (NumbersAscend self.now.rows) }
     {
-        for place in 1..self.count {
-            if self.row(place - 1).cmp(&self.row(place)) != Ordering::Less {
-                return false;
-            }
-        }
-        true
+        (1..self.count).all(|place| self.row(place - 1).cmp(&self.row(place)).is_lt())
     }
 
     /// The same rows in order, each once. Rows that ascend already are only gone through.

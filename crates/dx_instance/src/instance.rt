@@ -276,12 +276,7 @@ impl Instance {
         requires lengths { length columns.now ≡ length values.now }
         ensures { IsTrue result ↔ HasValues self.now table columns.now values.now place }
     {
-        for i in 0..columns.len() {
-            if !self.cell(table, place, columns[i]).is(&values[i]) {
-                return false;
-            }
-        }
-        true
+        columns.iter().zip(values).all(|(column, value)| self.cell(table, place, *column).is(value))
     }
 
     // The same, row by row.
@@ -291,12 +286,7 @@ impl Instance {
         requires lengths { length columns.now ≡ length values.now }
         ensures { IsFirstWith self.now table columns.now values.now from result }
     {
-        for place in from..self.count(table) {
-            if self.has_values(table, columns, values, place) {
-                return Some(place);
-            }
-        }
-        None
+        (from..self.count(table)).find(|place| self.has_values(table, columns, values, *place))
     }
 
     /// Makes an index of a column, so that `with_columns` and `count_with` need not go through all rows. Nothing else
@@ -394,12 +384,7 @@ impl Instance {
     fn all_ascend(&self) -> bool
         ensures { OnTrue result ((t : ℕ) → RowsAscend (rows_of self.now t)) }
     {
-        for table in 0..self.tables() {
-            if !self.is_ascending(table) {
-                return false;
-            }
-        }
-        true
+        (0..self.tables()).all(|table| self.is_ascending(table))
     }
 
     // The facts: table by table, the rows as they stand.

@@ -43,7 +43,7 @@ fn put(tree: &mut BTreeMap<NullId, Value>, null: NullId, value: Value) -> Result
     ensures proper { NoneIsItself tree.new.entries }
 {
     if is_same(null, &value) {
-        let _ = tree.remove(&null);
+        tree.remove(&null);
         return Ok(());
     }
     tree.insert(null, value)?;

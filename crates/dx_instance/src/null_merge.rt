@@ -31,18 +31,10 @@ pub(crate) fn value_among<'a>(pairs: &'a [NullPair], null: &NullId) -> Option<&'
     requires { PairsAscend pairs.now }
     ensures { option_copied result ≡ finite.find null_cmp null.now (entries_in pairs.now) }
 {
-    let mut low = 0usize;
-    let mut high = pairs.len();
-    while low < high {
-        let middle = low + (high - low) / 2;
-        let pair = &pairs[middle];
-        match pair.null.cmp(null) {
-            Ordering::Less => low = middle + 1,
-            Ordering::Greater => high = middle,
-            Ordering::Equal => return Some(&pair.value),
-        }
+    match pairs.binary_search_by(|pair| pair.null.cmp(null)) {
+        Ok(place) => Some(&pairs[place].value),
+        Err(_) => None,
     }
-    None
 }
 
 /// Whether a null is above those of ascending pairs.

@@ -53,7 +53,7 @@ fn of_ordered(alloc: Global, symbols: Symbols, tables: Vec<Rows>) -> Result<Sort
     requires few { length tables.items < 2 ^ 32 - 1 }
     ensures { IfOk result (λ s. IsSorting (shown_tables symbols tables.items) (shown_tables s.symbols s.tables)) }
 {
-    let _few = symbols.len();
+    prove!(symbols.len() < 4_294_967_296);
     let tables = put_all(alloc, tables)?;
     Ok(Sorted { symbols, tables })
 }

@@ -99,9 +99,9 @@ impl Symbols {
         ensures { self.new ≡ self.old }
     {
         if self.later.is_empty() && !self.ordered.values().is_empty() {
-            let _ = self.greater.reserve(more as usize);
+            self.greater.reserve(more as usize).ok();
         } else {
-            let _ = self.later.reserve(more as usize);
+            self.later.reserve(more as usize).ok();
         }
     }
 
@@ -257,7 +257,7 @@ impl Symbols {
         requires { length values < 2 ^ 32 }
         ensures { result ≡ values }
     {
-        let _ascend = values.values();
+        prove!(values.values().len() < 4_294_967_296);
         Symbols {
             ordered: values,
             greater: Vec::new(alloc),

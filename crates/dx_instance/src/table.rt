@@ -88,12 +88,7 @@ fn find_later(rows: &Rows, sorted: u32, chains: &Chains, row: &[u32]) -> Option<
 fn index_of(indexes: &[ColumnIndex], column: u32) -> Option<&ColumnIndex>
     ensures { IfSome result (λ x. (x.now ∈ indexes.now) × (x.now.column ≡ column)) }
 {
-    for index in indexes {
-        if index.column == column {
-            return Some(index);
-        }
-    }
-    None
+    indexes.iter().find(|index| index.column == column)
 }
 
 // The least place from `from` on whose row has the number in the column, row by row.
@@ -101,12 +96,7 @@ fn next_in(rows: &Rows, column: u32, number: u32, from: u32) -> Option<u32>
     requires { column < rows.now.width }
     ensures { IsNextWithNumber rows.now.rows column number from result }
 {
-    for place in from..rows.count() {
-        if rows.row(place)[column as usize] == number {
-            return Some(place);
-        }
-    }
-    None
+    (from..rows.count()).find(|place| rows.row(*place)[column as usize] == number)
 }
 
 impl Table {
@@ -191,7 +181,7 @@ impl Table {
         ensures { IfOk result (IsPut rows) }
     {
         let rows = rows.into_order(alloc)?;
-        let _wide = rows.count();
+        prove!((rows.count() as u64) < 4_294_967_296);
         Ok(Table::from_sorted(alloc, rows))
     }
 

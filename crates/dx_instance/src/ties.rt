@@ -24,12 +24,7 @@ fn second_keys(alloc: Global, symbols: &Values) -> Result<Vec<u64>, AllocError>
 
 // Whether some text has bytes after the eighth.
 fn any_long(lengths: &[u8]) -> bool {
-    for length in lengths {
-        if *length > 8 {
-            return true;
-        }
-    }
-    false
+    lengths.iter().any(|length| *length > 8)
 }
 
 // The second key of each number, or none at all if no text has a second one: then values are compared at once.

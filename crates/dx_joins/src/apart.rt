@@ -11,12 +11,7 @@ use crate::premise::stands_in;
 fn one_stands_in(variables: &[u32], patterns: &[Pattern]) -> bool
     ensures { IsTrue result ↔ ((x : ℕ) × (x ∈ variables.now) × (x ∈ variables_of_patterns patterns.now)) }
 {
-    for x in variables {
-        if stands_in(*x, patterns) {
-            return true;
-        }
-    }
-    false
+    variables.iter().any(|x| stands_in(*x, patterns))
 }
 
 /// Whether no variable of the first patterns stands in the others.

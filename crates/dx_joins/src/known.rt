@@ -21,8 +21,8 @@ fn greater(a: usize, b: usize) -> usize
     if a < b { b } else { a }
 }
 
-// A number above these variables, and no less than another.
-fn above(least: usize, variables: &[u32]) -> usize
+/// A number above these variables, and no less than another.
+pub(crate) fn above(least: usize, variables: &[u32]) -> usize
     ensures least { least ≤ result }
     ensures above { Each variables.now (λ x. x < result) }
 {
@@ -33,8 +33,8 @@ fn above(least: usize, variables: &[u32]) -> usize
     above
 }
 
-// A number above all variables of the patterns.
-fn above_all(patterns: &[Pattern]) -> usize
+/// A number above all variables of the patterns.
+pub(crate) fn above_all(patterns: &[Pattern]) -> usize
     ensures { Each (variables_of_patterns patterns.now) (λ x. x < result) }
 {
     let mut all = 0;
@@ -54,8 +54,8 @@ impl Known {
         Ok(Known { marks })
     }
 
-    // Whether the variable is known.
-    fn has(&self, variable: u32) -> bool
+    /// Whether the variable is known.
+    pub(crate) fn has(&self, variable: u32) -> bool
         ensures { IsTrue result ↔ IsKnown self.now variable }
     {
         let place = variable as usize;
@@ -66,24 +66,14 @@ impl Known {
     pub(crate) fn meets(&self, pattern: &Pattern) -> bool
         ensures { IsTrue result ↔ IsMet self.now pattern.now }
     {
-        for variable in &pattern.variables {
-            if self.has(*variable) {
-                return true;
-            }
-        }
-        false
+        pattern.variables.iter().any(|variable| self.has(*variable))
     }
 
     /// Whether each variable of the pattern is known.
     pub(crate) fn covers(&self, pattern: &Pattern) -> bool
         ensures { IsTrue result ↔ IsCovered self.now pattern.now }
     {
-        for variable in &pattern.variables {
-            if !self.has(*variable) {
-                return false;
-            }
-        }
-        true
+        pattern.variables.iter().all(|variable| self.has(*variable))
     }
 
     // Now the variable is known too, if there is a place for it.

@@ -25,12 +25,7 @@ pub(crate) struct Plan {
 pub(crate) fn has(numbers: &[u32], x: u32) -> bool
     ensures { IsTrue result ↔ (x ∈ numbers.now) }
 {
-    for y in numbers {
-        if *y == x {
-            return true;
-        }
-    }
-    false
+    numbers.iter().any(|y| *y == x)
 }
 
 /// A copy of a list of numbers.

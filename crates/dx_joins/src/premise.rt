@@ -25,12 +25,7 @@ pub(crate) struct Partial {
 pub(crate) fn stands_in(x: u32, patterns: &[Pattern]) -> bool
     ensures { IsTrue result ↔ (x ∈ variables_of_patterns patterns.now) }
 {
-    for pattern in patterns {
-        if has(&pattern.variables, x) {
-            return true;
-        }
-    }
-    false
+    patterns.iter().any(|pattern| has(&pattern.variables, x))
 }
 
 // Whether a later pattern has the variable, or it is wanted in the end.

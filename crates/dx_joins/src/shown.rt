@@ -56,12 +56,7 @@ fn premise_variables(premise: &[Atom]) -> u64
 fn is_argument(x: u32, derived: &[Derived]) -> bool
     ensures { IsTrue result ↔ ((e : AnyDerived) × (e ∈ derived.now) × (x ∈ e.args)) }
 {
-    for one in derived {
-        if has(one.args.items(), x) {
-            return true;
-        }
-    }
-    false
+    derived.iter().any(|one| has(one.args.items(), x))
 }
 
 // Whether the variable is an argument of a derived variable, or is shown.

@@ -1,11 +1,13 @@
 -- Going through what a document says.
-use Rattle.std.proofs.Common.{◌≡◌, ℕ, suc, ◌+◌, ◌<◌, List, [], ◌∷◌, ◌++◌, length, get_or, drop, map, Option, Some, None, refl, sym, ap, ◌∙◌, append_assoc, add-one, drop-cons, Result, Ok, Err, IfErr, option_map}
+use Rattle.std.proofs.Common.{◌≡◌, ℕ, suc, ◌+◌, ◌<◌, List, [], ◌∷◌, ◌++◌, length, get_or, drop, map, Option, Some, None, refl, sym, ap, ◌∙◌, append_assoc, add-one, drop-cons, Result, Ok, Err, IfErr, option_map, Bool, ◌||◌, bytes_eq}
+use Rattle.std.specs.List.{list_any}
 use Rattle.std.specs.Result.{IsErrAnd}
 use Rattle.std.specs.Fmt.{decimal}
 use Rattle.serde_json.specs.Data.{Data, null, boolean, number, string, array, object, Members}
 use Rattle.serde_json.specs.Find.{as_object, get_member}
 use Rattle.dx_json.specs.View.{view, items_view}
 use Rattle.dx_json.specs.declared.tree.Json.{Json}
+use Rattle.dx_schema.specs.Faults.{is_among, level_names}
 use Rattle.dx_schema.specs.Forest.{Label, Forest, Tree, forest_of}
 use Rattle.dx_model.specs.declared.facts.Fact.{Fact}
 use Rattle.dx_json.specs.declared.fault.JsonKind.{JsonKind}
@@ -17,6 +19,15 @@ use Rattle.dx_json.specs.Said.{DocumentItem, says, wrong_shape, wrong_number, un
 use Rattle.dx_schema.specs.Tables.{count}
 use Rattle.dx_schema.proofs.Numbered.{dropped_here}
 use Rattle.dx_json.specs.Documents.{first_fault, TellsFirstFault, HasDocumentFault, IsDocument, document_says}
+
+-- whether a name is among columns, and among the names of inner sets
+pub among_columns : (name : List ℕ) (columns : List (List ℕ)) → list_any (λ x. bytes_eq x name) columns ≡ is_among name columns
+among_columns name [] = refl
+among_columns name (x ∷ xs) = ap (λ (b : Bool). bytes_eq x name || b) (among_columns name xs)
+
+pub among_inner : (name : List ℕ) (ts : List Tree) → list_any (λ (t : Tree). bytes_eq t.label.name name) ts ≡ is_among name (level_names (forest_of ts))
+among_inner name [] = refl
+among_inner name (t ∷ ts) = ap (λ (b : Bool). bytes_eq t.label.name name || b) (among_inner name ts)
 
 -- a fault stays the first, whatever follows
 pub first_fault-more : (k : JsonKind) (xs ys : List DocumentItem) → first_fault xs ≡ Some k → first_fault (xs ++ ys) ≡ Some k

@@ -1,5 +1,7 @@
 -- A tree, level by level, and a map of members beside the members that it stands for.
-use Rattle.std.proofs.Common.{◌≡◌, ℕ, suc, ◌+◌, ◌<◌, List, [], ◌∷◌, length, get_or, drop, Bool, true, false, true≢false, Option, Some, Vec, Global, Bor, Ordering, Less, Equal, Greater, nat_cmp, is_eq, bytes_eq, refl, sym, ◌∙◌, ap, rules, add-one, drop-cons}
+use Rattle.std.proofs.Common.{◌≡◌, ℕ, zero, suc, ◌+◌, ◌<◌, List, [], ◌∷◌, length, get_or, drop, Bool, true, false, true≢false, Option, None, Some, Vec, Global, Bor, Ordering, Less, Equal, Greater, nat_cmp, is_eq, bytes_eq, refl, sym, subst, ◌∙◌, ap, arith, rules, add-one, drop-cons}
+use Rattle.std.specs.List.{AllWithin, HoldsAt}
+use Rattle.std.specs.Option.{MatchOption}
 use Rattle.std.specs.Cmp.Lexicographic.{slice_cmp}
 use Rattle.std.specs.Ordering.{match_ordering}
 use Rattle.std.specs.BTreeMap.{insert_entry}
@@ -64,3 +66,29 @@ pub member_past : (name : List ℕ) (es : List Entry) (k : ℕ) (e : Entry) → 
 member_past name es k e lt is other =
     let apart : is_eq (slice_cmp nat_cmp name e.0.now) ≡ false = is_eq-slice_cmp name e.0.now ∙ bytes_eq-comm name e.0.now ∙ other in
     ap (get_member name) (from_here es k e lt is) ∙ found_later (slice_cmp nat_cmp name e.0.now) _ _ apart
+
+-- what the first member of a name, or that there is none, says of the object
+abbrev pub Unnamed : List ℕ → List Entry → ℕ → Type 0
+Unnamed name es n = AllWithin (λ (e : Entry). bytes_eq e.0.now name ≡ false) es 0 n
+
+abbrev pub IsFirstNamed : List ℕ → List Entry → Entry → Type 0
+IsFirstNamed name es x = (bytes_eq x.0.now name ≡ true) × (i : ℕ) × (i < length es) × HoldsAt (λ (e : Entry). e ≡ x) es i × Unnamed name es i
+
+none_named : (name : List ℕ) (es : List Entry) → Unnamed name es (length es) → None ≡ get_member name (members_view es)
+none_named name [] h = refl
+none_named name (e ∷ es) h = none_named name es (λ k d l u. h (suc k) d (omega arith) (omega (arith, u))) ∙ sym (member_past name (e ∷ es) 0 e (omega arith) refl (h 0 e (omega arith) (omega arith)))
+
+first_named : (name : List ℕ) (es : List Entry) (x : Entry) (i : ℕ) → i < length es → HoldsAt (λ (e : Entry). e ≡ x) es i → bytes_eq x.0.now name ≡ true → Unnamed name es i
+    → Some (view x.1) ≡ get_member name (members_view es)
+first_named name [] x i h is same none = absurd (omega (arith, h))
+first_named name (e ∷ es) x zero h is same none = member_here name (e ∷ es) 0 x (omega arith) (sym (is x)) same
+first_named name (e ∷ es) x (suc i) h is same none =
+    first_named name es x i (omega (arith, h)) (λ d. is d) same (λ k d l u. none (suc k) d (omega arith) (omega (arith, u))) ∙ sym (member_past name (e ∷ es) 0 e (omega arith) refl (none 0 e (omega arith) (omega arith)))
+
+pub none_found : (name : List ℕ) (es : List Entry) (o : Option (Bor Entry)) → o ≡ None → MatchOption o (Unnamed name es (length es)) (λ x. IsFirstNamed name es x.now) → None ≡ get_member name (members_view es)
+none_found name es o e h = none_named name es (subst (λ (p : Option (Bor Entry)). MatchOption p (Unnamed name es (length es)) (λ x. IsFirstNamed name es x.now)) e h)
+
+pub some_found : (name : List ℕ) (es : List Entry) (o : Option (Bor Entry)) (x : Bor Entry) → o ≡ Some x → MatchOption o (Unnamed name es (length es)) (λ y. IsFirstNamed name es y.now) → Some (view x.now.1) ≡ get_member name (members_view es)
+some_found name es o x e h =
+    let f : IsFirstNamed name es x.now = subst (λ (p : Option (Bor Entry)). MatchOption p (Unnamed name es (length es)) (λ y. IsFirstNamed name es y.now)) e h in
+    first_named name es x.now f.1 f.2 f.3 f.0 f.4

@@ -15,12 +15,10 @@ use std::alloc::{AllocError, Global};
 pub fn member_of<'v, 'a>(members: &'v [(&'a str, Json<'a>)], name: &str) -> Option<&'v Json<'a>>
     ensures { lent_view result ≡ get_member name.now (members_view members.now) }
 {
-    for member in members {
-        if member.0 == name {
-            return Some(&member.1);
-        }
+    match members.iter().find(|member| member.0 == name) {
+        Some(member) => Some(&member.1),
+        None => None,
     }
-    None
 }
 
 /// The path of a member or an item.
@@ -44,17 +42,15 @@ pub fn id_of(alloc: Global, up: &Option<Text>, position: usize) -> Result<Text, 
 fn knows(tree: &SetTree, name: &str) -> bool
     ensures { result ≡ is_known tree.now.label tree.now.inner name.now }
 {
-    for column in tree.columns.items() {
-        if column.as_str() == name {
-            return true;
-        }
-    }
-    for inner in tree.inner.items() {
-        if inner.name.as_str() == name {
-            return true;
-        }
-    }
-    false
+    tree.columns
+        .items()
+        .iter()
+        .any(|column| column.as_str() == name)
+        || tree
+            .inner
+            .items()
+            .iter()
+            .any(|inner| inner.name.as_str() == name)
 }
 
 /// Refuses the first member that is neither a column nor an inner set.

@@ -29,7 +29,7 @@ fn put(alloc: Global, name: &Text, source: Source, order: &mut Order) -> Result<
     ensures { OnOk result (slots_of order.new.entries ≡ slot_put name.now source (slots_of order.old.entries)) }
 {
     let name = String::from_str(alloc, name.as_str())?;
-    let _before = order.insert(name, source)?;
+    order.insert(name, source)?;
     Ok(())
 }
 

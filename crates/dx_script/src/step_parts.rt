@@ -19,10 +19,12 @@ fn has_column(schema: &Schema, table: &Text, column: &Text) -> bool
     ensures { IsTrue result ↔ (column.now ∈ (table_numbered (table_names_of schema.now)
         (table_named (table_names_of schema.now) table.now)).columns) }
 {
-    // The call tells that names tell the tables apart.
-    let _tables = schema.tables();
     match schema.table_named(table) {
-        Some(number) => schema.column_named(number, column).is_some(),
+        Some(number) => {
+            // The number of tables tells that names tell them apart.
+            prove!(number < schema.tables());
+            schema.column_named(number, column).is_some()
+        }
         None => false,
     }
 }
@@ -31,10 +33,12 @@ fn has_column(schema: &Schema, table: &Text, column: &Text) -> bool
 pub(crate) fn width_named(schema: &Schema, table: &Text) -> u64
     ensures { result ≡ length (table_numbered (table_names_of schema.now) (table_named (table_names_of schema.now) table.now)).columns }
 {
-    // The call tells that names tell the tables apart.
-    let _tables = schema.tables();
     match schema.table_named(table) {
-        Some(number) => u64::from(schema.width(number)),
+        Some(number) => {
+            // The number of tables tells that names tell them apart.
+            prove!(number < schema.tables());
+            u64::from(schema.width(number))
+        }
         None => 0,
     }
 }
@@ -50,12 +54,7 @@ fn is_table(schema: &Schema, name: &Text) -> bool
 pub(crate) fn are_tables(schema: &Schema, names: &[Text]) -> bool
     ensures { IsTrue result ↔ Each names.now (λ name. name ∈ table_names (table_names_of schema.now)) }
 {
-    for name in names {
-        if !is_table(schema, name) {
-            return false;
-        }
-    }
-    true
+    names.iter().all(|name| is_table(schema, name))
 }
 
 /// Whether a cell is a column of the table of its alias.
@@ -70,12 +69,7 @@ fn cell_fits(source: &Schema, sources: &[Text], cell: &CellRef) -> bool
 fn cells_fit(source: &Schema, sources: &[Text], cells: &[CellRef]) -> bool
     ensures { IsTrue result ↔ Each cells.now (CellFits (table_names_of source.now) sources.now) }
 {
-    for cell in cells {
-        if !cell_fits(source, sources, cell) {
-            return false;
-        }
-    }
-    true
+    cells.iter().all(|cell| cell_fits(source, sources, cell))
 }
 
 /// Whether a conversion of this name is listed, which takes so many texts.
@@ -118,12 +112,9 @@ pub(crate) fn selects_fit<F: Fn(u32, &Items<Text>) -> Result<Text, AllocError>, 
 ) -> bool
     ensures { IsTrue result ↔ Each selects.now (SelectFits (table_names_of source.now) (offered host.now) sources.now) }
 {
-    for select in selects {
-        if !select_fits(source, host, sources, select) {
-            return false;
-        }
-    }
-    true
+    selects
+        .iter()
+        .all(|select| select_fits(source, host, sources, select))
 }
 
 /// Whether two cells that are to be equal fit.
@@ -137,12 +128,9 @@ fn equal_fits(source: &Schema, sources: &[Text], equal: &Equal) -> bool
 pub(crate) fn equals_fit(source: &Schema, sources: &[Text], equals: &[Equal]) -> bool
     ensures { IsTrue result ↔ Each equals.now (EqualFits (table_names_of source.now) sources.now) }
 {
-    for equal in equals {
-        if !equal_fits(source, sources, equal) {
-            return false;
-        }
-    }
-    true
+    equals
+        .iter()
+        .all(|equal| equal_fits(source, sources, equal))
 }
 
 /// Whether the match table of a rule has the column.
@@ -171,12 +159,9 @@ fn test_fits(before: &[Step], rule: u32, other: u32, test: &Test) -> bool
 fn tests_fit(before: &[Step], rule: u32, other: u32, tests: &[Test]) -> bool
     ensures { IsTrue result ↔ Each tests.now (TestFits before.now rule other) }
 {
-    for test in tests {
-        if !test_fits(before, rule, other, test) {
-            return false;
-        }
-    }
-    true
+    tests
+        .iter()
+        .all(|test| test_fits(before, rule, other, test))
 }
 
 /// Whether the partners of a rule's tuples are tuples of a match table that is there.
@@ -191,12 +176,7 @@ fn partners_fit(before: &[Step], rule: u32, unless: &Unless) -> bool
 pub(crate) fn unless_fit(before: &[Step], rule: u32, unless: &[Unless]) -> bool
     ensures { IsTrue result ↔ Each unless.now (UnlessFits before.now rule) }
 {
-    for one in unless {
-        if !partners_fit(before, rule, one) {
-            return false;
-        }
-    }
-    true
+    unless.iter().all(|one| partners_fit(before, rule, one))
 }
 
 /// Whether what is put in is there.
@@ -214,10 +194,5 @@ fn out_fits(before: &[Step], rule: u32, out: &Out) -> bool
 pub(crate) fn outs_fit(before: &[Step], rule: u32, outs: &[Out]) -> bool
     ensures { IsTrue result ↔ Each outs.now (OutFits before.now rule) }
 {
-    for out in outs {
-        if !out_fits(before, rule, out) {
-            return false;
-        }
-    }
-    true
+    outs.iter().all(|out| out_fits(before, rule, out))
 }

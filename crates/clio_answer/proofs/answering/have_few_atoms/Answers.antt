@@ -1,22 +1,10 @@
-use Rattle.std.proofs.Common.{◌≤◌, arith, length}
-use Rattle.dx_base.proofs.Loops.{all_so, each_item, each_more}
-use Rattle.dx_queries.specs.declared.query.Part.{Part}
+use Rattle.std.proofs.Common.{◌≤◌, ◌<◌, arith, length, rules, tests}
+use Rattle.std.proofs.lemmas.Iterator.{cases_from_all, YieldsList-from_slice}
+use Rattle.dx_base.proofs.Asked.{all_tells}
 use Rattle.clio_answer.proofs.answering.have_few_atoms.Goals as goal
 
-abbrev few : Part → Type 0
-few p = length p.atoms ≤ 64
-
-pub returns-then-len-gt-QUERY_ATOMS : goal.returns-then-len-gt-QUERY_ATOMS
-returns-then-len-gt-QUERY_ATOMS c = (
-  (λ t. absurd cc),
-  (λ all.
-      let here = each_item few c.args.parts.now c.loop-part.part-index c.part-item.result c.loop-part-test.true c.part-item.is all in
-      absurd (omega (arith, here, c.len.ensures, c.if-len-gt-QUERY_ATOMS.true))),
-)
-
-pub loop-part-preserved : goal.loop-part-preserved
-loop-part-preserved c =
-    each_more few c.args.parts.now c.loop-part.part-index c.part-item.result c.loop-part-test.true c.part-item.is c.loop-part.invariant (omega (arith, c.len.ensures, c.if-len-gt-QUERY_ATOMS.false))
-
 pub returns : goal.returns
-returns c = all_so few c.args.parts.now c.loop-part.part-index c.loop-part-test.false c.loop-part.invariant (λ all. all)
+returns c =
+    let xs = c.args.parts.now in
+    let by_call = cases_from_all _ _ _ (λ p. length p.atoms ≤ 64) (λ p. 64 < length p.atoms) c.all.ensures.ran (YieldsList-from_slice xs cc) (λ x q k. search (rules, tests)) (λ x q k. search (rules, tests)) in
+    all_tells (λ p. length p.atoms ≤ 64) (λ p. 64 < length p.atoms) _ xs (λ x p q. omega (arith, p, q)) by_call

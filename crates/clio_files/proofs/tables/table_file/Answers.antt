@@ -16,5 +16,5 @@ returns c =
     let within = (width_at c.args.instance.now (tables_of c.args.schema.now) c.args.table (record { width = 0; rows = [] }) no_table c.requires.widths c.requires.table).0 in record {
       name = c.in_ok-file_name.ensures ∙ ap (λ n. c.args.front.now ++ csv_name n) c.name.ensures;
       bytes = text;
-      count = c.from.ensures ∙ (c.count.ensures ∙ rows_as_many c.args.instance.now c.args.table text.sorted c.tables-tables.ensures.distinct within text.ascend text.kept text.only);
+      count = c.from.ensures ∙ (c.count.ensures ∙ rows_as_many c.args.instance.now c.args.table text.sorted c.tables.ensures.distinct within text.ascend text.kept text.only);
     }

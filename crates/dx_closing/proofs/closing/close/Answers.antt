@@ -15,12 +15,12 @@ use Rattle.dx_closing.proofs.closing.close.Goals as goal
 pub above_all-next-requires : goal.above_all-next-requires
 above_all-next-requires c =
     rw c.items.ensures
-    (begun_below c.args.target.now c.args.rule.conclusion c.requires.numbered c.tables-tables.ensures.facts c.requires.fits (omega arith))
+    (begun_below c.args.target.now c.args.rule.conclusion c.requires.numbered c.tables.ensures.facts c.requires.fits (omega arith))
 
 pub atoms-init : goal.atoms-init
 atoms-init c =
     let e = begun_is c.args.rule.conclusion c.above_all-next.result (rw c.items.ensures at c.above_all-next.ensures) in
-    (e, rw e (begun_roomy c.args.target.now c.args.rule.conclusion c.requires.numbered c.tables-tables.ensures.facts c.requires.fits (omega arith)), omega arith)
+    (e, rw e (begun_roomy c.args.target.now c.args.rule.conclusion c.requires.numbered c.tables.ensures.facts c.requires.fits (omega arith)), omega arith)
 
 pub returns-then-len-gt-OCCURRENCES-clause-wide : goal.returns-then-len-gt-OCCURRENCES-clause-wide
 returns-then-len-gt-OCCURRENCES-clause-wide c = λ _ E k. closing_wide (model_tables c.args.target.now) c.args.rule.conclusion E 0 k (rw c.len.ensures at c.if-len-gt-OCCURRENCES.true)
@@ -43,10 +43,10 @@ atoms-preserved c =
 pub returns-clause-closed : goal.returns-clause-closed
 returns-clause-closed c =
     let k = at_end (model_tables c.args.target.now) c.args.rule.conclusion c.atoms.growing c.atoms.place c.atoms.invariant.0 (rw c.items-in-atoms.ensures at c.atoms-test.false) c.atoms.invariant.2 in
-    closing_serves (model_tables c.args.target.now) c.args.rule _ (links_fit (tables_of c.args.target.now) c.tables-tables.ensures.facts) c.requires.fits
+    closing_serves (model_tables c.args.target.now) c.args.rule _ (links_fit (tables_of c.args.target.now) c.tables.ensures.facts) c.requires.fits
     (record { premise = refl; derived = refl; conclusion = k })
 
 pub returns-clause-numbered : goal.returns-clause-numbered
 returns-clause-numbered c =
     let k = at_end (model_tables c.args.target.now) c.args.rule.conclusion c.atoms.growing c.atoms.place c.atoms.invariant.0 (rw c.items-in-atoms.ensures at c.atoms-test.false) c.atoms.invariant.2 in
-    closing_numbered (model_tables c.args.target.now) c.args.rule.conclusion c.atoms.growing.atoms (links_fit (tables_of c.args.target.now) c.tables-tables.ensures.facts) c.requires.fits c.requires.numbered k
+    closing_numbered (model_tables c.args.target.now) c.args.rule.conclusion c.atoms.growing.atoms (links_fit (tables_of c.args.target.now) c.tables.ensures.facts) c.requires.fits c.requires.numbered k

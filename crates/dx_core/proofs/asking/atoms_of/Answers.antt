@@ -14,7 +14,7 @@ loop-at-preserved c =
     let d : At = record { table = 0; place = 0 } in
     elim c.if-not-has.branch [
       | then-not-has+in_ok-atom_of+in_ok-push w ↦ rw w.atoms-is (row_added N c.args.nulls.now c.args.taken.now c.args.rows.now
-          c.loop-at.at-index d c.loop-at-test.true c.loop-at.atoms.items c.loop-at.invariant c.len-fit.ensures.fit w.push.new.self.items
+          c.loop-at.at-index d c.loop-at-test.true c.loop-at.atoms.items c.loop-at.invariant c.len.ensures.fit w.push.new.self.items
           w.in_ok-atom_of.field-0 (c.requires.rows _ (in_at c.args.rows.now c.loop-at.at-index d c.loop-at-test.true))
           (sym c.has.ensures ∙ w.if-not-has.true) w.in_ok-atom_of.ensures w.in_ok-push.ensures.items)
       | else-not-has w ↦ rw w.atoms-is (row_skipped N c.args.nulls.now c.args.taken.now c.args.rows.now c.loop-at.at-index d

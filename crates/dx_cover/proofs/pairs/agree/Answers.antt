@@ -1,38 +1,24 @@
-use Rattle.std.proofs.Common.{get_or, sym, ◌∙◌, rules}
-use Rattle.dx_base.proofs.Members.{each_at, in_at}
-use Rattle.dx_cover.specs.Pairs.{IsWithin}
+use Rattle.std.proofs.Common.{◌<◌, length, rules, tests}
+use Rattle.std.proofs.lemmas.Iterator.{cases_from_all, YieldsList-from_slice}
+use Rattle.std.proofs.lemmas.Iterator.Adapters.{serves_from_places}
+use Rattle.dx_base.proofs.Members.{item_in}
+use Rattle.dx_cover.specs.declared.pairs.Place.{Place}
+use Rattle.dx_cover.specs.Pairs.{IsSameAt, IsWithin}
+use Rattle.dx_cover.proofs.Asked.{told_some}
 use Rattle.dx_cover.proofs.Pairing.{not_same_at}
 use Rattle.dx_cover.proofs.pairs.agree.Goals as goal
 
-pub offset_bounds-own_cells-place : goal.offset_bounds-own_cells-place
-offset_bounds-own_cells-place c =
-    let w = each_at (IsWithin c.args.chosen.now c.args.next.now) c.args.places.now c.loop-place.place-index (record { own = 0; its = 0 }) c.loop-place-test.true c.requires in
-    let below = rw (sym c.items-own_cells.ensures) at w.0 in
-    search rules
+pub all-requires-clause-callable : goal.all-requires-clause-callable
+all-requires-clause-callable c =
+    serves_from_places (YieldsList-from_slice c.args.places.now (cc)) (λ x q m. search rules) (λ x k h e.
+    let w = c.requires x.now (item_in c.args.places.now k x.now h e) in
+    let own : x.now.own < length c.items-own_cells.result.now = rw c.items-own_cells.ensures w.0 in
+    let its : x.now.its < length c.items-its_cells.result.now = rw c.items-its_cells.ensures w.1 in
+    search (rules, own, its))
 
-pub bounds-own_cells-place : goal.bounds-own_cells-place
-bounds-own_cells-place c =
-    let w = each_at (IsWithin c.args.chosen.now c.args.next.now) c.args.places.now c.loop-place.place-index (record { own = 0; its = 0 }) c.loop-place-test.true c.requires in
-    rw c.items-own_cells.ensures w.0
-
-pub offset_bounds-its_cells-place : goal.offset_bounds-its_cells-place
-offset_bounds-its_cells-place c =
-    let w = each_at (IsWithin c.args.chosen.now c.args.next.now) c.args.places.now c.loop-place.place-index (record { own = 0; its = 0 }) c.loop-place-test.true c.requires in
-    let below = rw (sym c.items-its_cells.ensures) at w.1 in
-    search rules
-
-pub bounds-its_cells-place : goal.bounds-its_cells-place
-bounds-its_cells-place c =
-    let w = each_at (IsWithin c.args.chosen.now c.args.next.now) c.args.places.now c.loop-place.place-index (record { own = 0; its = 0 }) c.loop-place-test.true c.requires in
-    rw c.items-its_cells.ensures w.1
-
-pub returns-then-not-is_same_cell : goal.returns-then-not-is_same_cell
-returns-then-not-is_same_cell c = λ e.
-    let w = each_at (IsWithin c.args.chosen.now c.args.next.now) c.args.places.now c.loop-place.place-index (record { own = 0; its = 0 }) c.loop-place-test.true c.requires in (
-      get_or c.args.places.now c.loop-place.place-index (record { own = 0; its = 0 }),
-      in_at c.args.places.now c.loop-place.place-index (record { own = 0; its = 0 }) c.loop-place-test.true,
-      not_same_at c.args.chosen.now c.args.next.now _ c.index-own_cells-place.result c.index-its_cells-place.result w
-          (rw c.items-own_cells.ensures at c.index-own_cells-place.is)
-          (rw c.items-its_cells.ensures at c.index-its_cells-place.is)
-          (sym c.is_same_cell.ensures ∙ c.if-not-is_same_cell.true),
-    )
+pub returns : goal.returns
+returns c =
+    let differs : Place → Type 0 = λ p. IsWithin c.args.chosen.now c.args.next.now p → ¬ (IsSameAt c.args.chosen.now c.args.next.now p) in
+    let by_call = cases_from_all _ _ _ (λ p. Unit {0}) differs c.all.ensures.ran (YieldsList-from_slice c.args.places.now (cc)) (λ x q k. search (rules, tests)) (λ x q k w. search (rules, tests, not_same_at, w)) in
+    λ e. let w = told_some (λ (p : Place). Unit {0}) differs _ c.args.places.now by_call e in
+    (w.0, w.1, w.2 (c.requires w.0 w.1))

@@ -1,6 +1,5 @@
 use Rattle.std.proofs.Common.{arith}
-use Rattle.dx_holds.proofs.Determining.{all_determine, determine_more}
-use Rattle.dx_fails.proofs.Breaking.{are_apart, first_there}
+use Rattle.dx_fails.proofs.Breaking.{all_determine, are_apart, determine_more, first_there}
 use Rattle.dx_fails.proofs.broken.apart_in.Goals as goal
 
 pub firsts-requires-clause-columns : goal.firsts-requires-clause-columns

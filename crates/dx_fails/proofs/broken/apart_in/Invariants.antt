@@ -1,4 +1,4 @@
-use Rattle.dx_holds.proofs.Determining.{DetermineTo}
+use Rattle.dx_fails.proofs.Breaking.{DetermineTo}
 use Rattle.dx_fails.proofs.broken.apart_in.Given as goal
 
 abbrev pub invariant-loop-place : goal.invariant-loop-place

@@ -1,14 +1,14 @@
-use Rattle.std.proofs.Common.{arith}
-use Rattle.std.proofs.lemmas.Bool.{false≢true}
-use Rattle.dx_holds.proofs.Determining.{differ_more, not_differ}
+use Rattle.std.proofs.Common.{rules, tests, arith, ◌<◌, length}
+use Rattle.std.proofs.lemmas.Iterator.{cases_from_all, YieldsList-from_range}
+use Rattle.dx_holds.proofs.Asking.{range_tells}
+use Rattle.dx_holds.specs.Columns.{IsFirstLike, RowsDiffer}
+use Rattle.dx_holds.proofs.Determining.{all_differ, each_first}
 use Rattle.dx_holds.proofs.keys.differ_in.Goals as goal
 
-pub returns-then-first-place : goal.returns-then-first-place
-returns-then-first-place c = (
-  (λ t. absurd (false≢true t)),
-  (λ d. absurd (not_differ c.args.instance.now c.args.table c.args.columns.now c.loop-place.place c.first_like-first.result (rw c.count-place-end.ensures at c.loop-place-test.true) c.first_like-first.ensures (λ e. omega (arith, e, c.if-first-place.true)) d)),
-)
-
-pub loop-place-preserved : goal.loop-place-preserved
-loop-place-preserved c =
-    differ_more c.args.instance.now c.args.table c.args.columns.now c.loop-place.place c.first_like-first.result c.first_like-first.ensures (omega (arith, c.if-first-place.false)) c.loop-place.invariant
+pub returns : goal.returns
+returns c =
+    range_tells (λ x. IsFirstLike c.args.instance.now c.args.table c.args.columns.now x x) (λ x. ¬ (IsFirstLike c.args.instance.now c.args.table c.args.columns.now x x)) (RowsDiffer c.args.instance.now c.args.table c.args.columns.now) c.all.result 0 c.count.result
+    (λ each. all_differ c.args.instance.now c.args.table c.args.columns.now (λ x h. each x (omega arith) (omega (arith, h, c.count.ensures))))
+    (λ x l u no d. no (each_first c.args.instance.now c.args.table c.args.columns.now x (omega (arith, u, c.count.ensures)) d))
+    (cases_from_all _ _ _ (λ x. IsFirstLike c.args.instance.now c.args.table c.args.columns.now x x) (λ x. ¬ (IsFirstLike c.args.instance.now c.args.table c.args.columns.now x x)) c.all.ensures.ran (YieldsList-from_range 0 c.count.result c.count.result (cc) (omega arith))
+    (λ x q k. search (rules, tests)) (λ x q k. search (rules, tests)))

@@ -1,16 +1,13 @@
-use Rattle.std.proofs.Common.{◌<◌, ◌∙◌, ap, arith, length, not}
-use Rattle.std.proofs.lemmas.Bool.{false≢true}
-use Rattle.dx_instance.specs.Stored.{rows_of}
-use Rattle.dx_holds.proofs.Agreeing.{lead_more, not_lead}
+use Rattle.std.proofs.Common.{rules, tests, arith, ◌<◌, length}
+use Rattle.std.proofs.lemmas.Iterator.{cases_from_all, YieldsList-from_range}
+use Rattle.dx_holds.proofs.Asking.{range_tells}
+use Rattle.dx_holds.specs.Columns.{RowLeads, RowsLead}
 use Rattle.dx_holds.proofs.links.leads.Goals as goal
 
-pub returns-then-is_none : goal.returns-then-is_none
-returns-then-is_none c =
-    let h : c.loop-place.place < length (rows_of c.args.instance.now c.args.table) = omega (arith, c.count-place-end.ensures, c.loop-place-test.true) in (
-      (λ t. absurd (false≢true t)),
-      (λ r. absurd (not_lead c.args.instance.now c.args.table c.loop-place.place c.args.link.now c.next_like.result h (c.is_none.ensures ∙ ap not c.if-is_none.true) (rw (c.items.ensures, c.items-columns.ensures) at c.next_like.ensures) r)),
-    )
-
-pub loop-place-preserved : goal.loop-place-preserved
-loop-place-preserved c =
-    lead_more c.args.instance.now c.args.table c.loop-place.place c.args.link.now c.next_like.result (c.is_none.ensures ∙ ap not c.if-is_none.false) (rw (c.items.ensures, c.items-columns.ensures) at c.next_like.ensures) c.loop-place.invariant
+pub returns : goal.returns
+returns c =
+    range_tells (λ x. RowLeads c.args.instance.now c.args.table c.args.link.now x) (λ x. ¬ (RowLeads c.args.instance.now c.args.table c.args.link.now x)) (RowsLead c.args.instance.now c.args.table c.args.link.now) c.all.result 0 c.count.result
+    (λ each p h. each p (omega arith) (omega (arith, h, c.count.ensures)))
+    (λ x l u no d. no (d x (omega (arith, u, c.count.ensures))))
+    (cases_from_all _ _ _ (λ x. RowLeads c.args.instance.now c.args.table c.args.link.now x) (λ x. ¬ (RowLeads c.args.instance.now c.args.table c.args.link.now x)) c.all.ensures.ran (YieldsList-from_range 0 c.count.result c.count.result (cc) (omega arith))
+    (λ x q k. search (rules, tests)) (λ x q k. search (rules, tests)))

@@ -1,17 +1,16 @@
-use Rattle.std.proofs.Common.{◌<◌, ◌≤◌, length, arith, below_more, refl}
-use Rattle.dx_base.proofs.Loops.{not_so}
-use Rattle.dx_holds.proofs.Tables.{links_hold_all, table_links}
+use Rattle.std.proofs.Common.{rules, tests, arith, ◌<◌, length}
+use Rattle.std.proofs.lemmas.Iterator.{cases_from_all, YieldsList-from_range}
+use Rattle.dx_holds.proofs.Asking.{range_tells}
+use Rattle.dx_model.specs.Tables.{LinksHold}
+use Rattle.dx_schema.specs.Tables.{model_tables}
+use Rattle.dx_instance.specs.Stored.{facts}
+use Rattle.dx_holds.proofs.Tables.{TableLinks, links_hold_all, table_links}
 use Rattle.dx_holds.proofs.links.links_hold.Goals as goal
-
-pub returns-then-not-table_links_hold : goal.returns-then-not-table_links_hold
-returns-then-not-table_links_hold c =
-    let h : c.loop-table.table < length c.args.instance.now = omega (arith, c.tables-table-end.ensures.number, c.loop-table-test.true) in
-    not_so c.if-not-table_links_hold.true c.table_links_hold.ensures (table_links c.args.schema.now c.args.instance.now c.loop-table.table c.requires h)
-
-pub loop-table-preserved : goal.loop-table-preserved
-loop-table-preserved c = below_more _ _ c.loop-table.invariant (c.table_links_hold.ensures.0 c.if-not-table_links_hold.false)
 
 pub returns : goal.returns
 returns c =
-    let h : length c.args.instance.now ≤ c.loop-table.table = omega (arith, c.tables-table-end.ensures.number, c.loop-table-test.false) in
-    ((λ t. links_hold_all c.args.schema.now c.args.instance.now c.loop-table.table c.requires h c.loop-table.invariant), (λ q. refl))
+    range_tells (λ x. TableLinks c.args.schema.now c.args.instance.now x) (λ x. ¬ (TableLinks c.args.schema.now c.args.instance.now x)) (LinksHold (model_tables c.args.schema.now) (facts c.args.instance.now)) c.all.result 0 c.tables.result
+    (λ each. links_hold_all c.args.schema.now c.args.instance.now c.tables.result c.requires (omega (arith, c.tables.ensures.number)) (λ t h. each t (omega arith) (omega (arith, h))))
+    (λ x l u no d. no (table_links c.args.schema.now c.args.instance.now x c.requires (omega (arith, u, c.tables.ensures.number)) d))
+    (cases_from_all _ _ _ (λ x. TableLinks c.args.schema.now c.args.instance.now x) (λ x. ¬ (TableLinks c.args.schema.now c.args.instance.now x)) c.all.ensures.ran (YieldsList-from_range 0 c.tables.result c.tables.result (cc) (omega arith))
+    (λ x q k. search (rules, tests)) (λ x q k. search (rules, tests)))

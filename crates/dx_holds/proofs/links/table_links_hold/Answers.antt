@@ -1,25 +1,24 @@
-use Rattle.dx_base.proofs.Loops.{all_so, each_item, each_more, not_so}
-use Rattle.dx_base.proofs.Members.{in_at}
+use Rattle.std.proofs.Common.{rules, tests, arith}
+use Rattle.std.proofs.lemmas.Iterator.{cases_from_all, YieldsList-from_slice}
+use Rattle.std.proofs.lemmas.Iterator.Adapters.{serves_from_places}
+use Rattle.dx_base.proofs.Members.{item_in}
+use Rattle.dx_holds.proofs.Tables.{link_fits}
+use Rattle.dx_base.proofs.Asked.{all_tells}
 use Rattle.dx_schema.specs.Tables.{schema_table}
 use Rattle.dx_holds.specs.Columns.{RowsLead}
-use Rattle.dx_holds.proofs.Tables.{link_fits}
 use Rattle.dx_holds.proofs.links.table_links_hold.Goals as goal
 
-pub leads-requires-clause-fits : goal.leads-requires-clause-fits
-leads-requires-clause-fits c =
-    link_fits c.args.schema.now c.args.instance.now c.args.table c.link-item.result c.requires.widths c.tables-fits.ensures.facts c.requires.table
-    (rw (← c.links_of-link-items.ensures, c.link-item.is) (in_at c.links_of-link-items.result.now c.loop-link.link-index c.link-item.result c.loop-link-test.true))
-
-pub returns-then-not-leads : goal.returns-then-not-leads
-returns-then-not-leads c =
-    not_so c.if-not-leads.true c.leads.ensures
-    (each_item (RowsLead c.args.instance.now c.args.table) (schema_table c.args.schema.now c.args.table).links c.loop-link.link-index c.link-item.result (rw c.links_of-link-items.ensures at c.loop-link-test.true) (rw c.links_of-link-items.ensures at c.link-item.is))
-
-pub loop-link-preserved : goal.loop-link-preserved
-loop-link-preserved c =
-    each_more (RowsLead c.args.instance.now c.args.table) (schema_table c.args.schema.now c.args.table).links c.loop-link.link-index c.link-item.result (rw c.links_of-link-items.ensures at c.loop-link-test.true) (rw c.links_of-link-items.ensures at c.link-item.is)
-    c.loop-link.invariant (c.leads.ensures.0 c.if-not-leads.false)
+pub all-requires-clause-callable : goal.all-requires-clause-callable
+all-requires-clause-callable c =
+    serves_from_places (YieldsList-from_slice c.links_of.result.now (cc)) (λ x q k. search (rules, tests))
+    (λ x k h e.
+    let fits = link_fits c.args.schema.now c.args.instance.now c.args.table x.now c.requires.widths c.tables.ensures.facts c.requires.table
+    (rw (← c.links_of.ensures) (item_in c.links_of.result.now k x.now h e)) in
+    search (rules, fits))
 
 pub returns : goal.returns
 returns c =
-    all_so (RowsLead c.args.instance.now c.args.table) (schema_table c.args.schema.now c.args.table).links c.loop-link.link-index (rw c.links_of-link-items.ensures at c.loop-link-test.false) c.loop-link.invariant (λ q. q)
+    all_tells (λ x. RowsLead c.args.instance.now c.args.table x) (λ x. ¬ (RowsLead c.args.instance.now c.args.table x)) c.all.result (schema_table c.args.schema.now c.args.table).links
+    (λ x p q. q p)
+    (cases_from_all _ _ _ (λ x. RowsLead c.args.instance.now c.args.table x) (λ x. ¬ (RowsLead c.args.instance.now c.args.table x)) c.all.ensures.ran (YieldsList-from_slice ((schema_table c.args.schema.now c.args.table).links) (cc))
+    (λ x q k. search (rules, tests)) (λ x q k. search (rules, tests)))

@@ -29,7 +29,7 @@ pub returns-then-not-meet_cell-clause-cases : goal.returns-then-not-meet_cell-cl
 returns-then-not-meet_cell-clause-cases c =
     let fits = c.args.question.now.fit.tables c.args.atom.now c.requires.atom in
     let h : c.loop-column.column < length c.args.atom.now.cells = omega (arith, fits.1, c.width-column-end.ensures, c.loop-column-test.true) in
-    let l : length c.args.atom.now.cells ≡ length (row_at c.args.question.now.target.now c.args.atom.now.table c.args.place) = row_wide c.args.question.now.target.now c.args.atom.now c.args.place fits.0 fits.1 c.requires.place c.tables-wide.ensures.rows in
+    let l : length c.args.atom.now.cells ≡ length (row_at c.args.question.now.target.now c.args.atom.now.table c.args.place) = row_wide c.args.question.now.target.now c.args.atom.now c.args.place fits.0 fits.1 c.requires.place c.tables.ensures.rows in
     row_failed (texts c.args.question.now.atoms.now c.args.question.now.tuple.now) c.args.question.now.target.now (vec_capacity c.args.found.now) c.args.atom.now.cells (row_at c.args.question.now.target.now c.args.atom.now.table c.args.place)
     c.args.found.now.items c.loop-column.found.items c.loop-column.column c.index-cells-column.result (value_at c.args.question.now.target.now c.args.atom.now.table c.args.place c.loop-column.column) l h (rw c.items-cells.ensures at c.index-cells-column.is)
     (get_or_default (row_at c.args.question.now.target.now c.args.atom.now.table c.args.place) c.loop-column.column (Const []) _ (omega (arith, h, l))) c.loop-column.invariant.narrows c.meet_cell.new.found.items c.if-not-meet_cell.ensures.cases
@@ -38,7 +38,7 @@ pub loop-column-preserved : goal.loop-column-preserved
 loop-column-preserved c =
     let fits = c.args.question.now.fit.tables c.args.atom.now c.requires.atom in
     let h : c.loop-column.column < length c.args.atom.now.cells = omega (arith, fits.1, c.width-column-end.ensures, c.loop-column-test.true) in
-    let l : length c.args.atom.now.cells ≡ length (row_at c.args.question.now.target.now c.args.atom.now.table c.args.place) = row_wide c.args.question.now.target.now c.args.atom.now c.args.place fits.0 fits.1 c.requires.place c.tables-wide.ensures.rows in
+    let l : length c.args.atom.now.cells ≡ length (row_at c.args.question.now.target.now c.args.atom.now.table c.args.place) = row_wide c.args.question.now.target.now c.args.atom.now c.args.place fits.0 fits.1 c.requires.place c.tables.ensures.rows in
     record {
       capacity = c.meet_cell.ensures.capacity ∙ c.loop-column.invariant.capacity;
       narrows = row_more (texts c.args.question.now.atoms.now c.args.question.now.tuple.now) c.args.question.now.target.now (vec_capacity c.args.found.now) c.args.atom.now.cells (row_at c.args.question.now.target.now c.args.atom.now.table c.args.place)
@@ -49,6 +49,6 @@ loop-column-preserved c =
 pub returns-clause-cases : goal.returns-clause-cases
 returns-clause-cases c =
     let fits = c.args.question.now.fit.tables c.args.atom.now c.requires.atom in
-    let l : length c.args.atom.now.cells ≡ length (row_at c.args.question.now.target.now c.args.atom.now.table c.args.place) = row_wide c.args.question.now.target.now c.args.atom.now c.args.place fits.0 fits.1 c.requires.place c.tables-wide.ensures.rows in
+    let l : length c.args.atom.now.cells ≡ length (row_at c.args.question.now.target.now c.args.atom.now.table c.args.place) = row_wide c.args.question.now.target.now c.args.atom.now c.args.place fits.0 fits.1 c.requires.place c.tables.ensures.rows in
     row_whole (texts c.args.question.now.atoms.now c.args.question.now.tuple.now) c.args.question.now.target.now (vec_capacity c.args.found.now) c.args.atom.now.cells (row_at c.args.question.now.target.now c.args.atom.now.table c.args.place)
     c.args.found.now.items c.loop-column.found.items c.loop-column.column l (omega (arith, fits.1, c.width-column-end.ensures, c.loop-column-test.false)) c.loop-column.invariant.narrows

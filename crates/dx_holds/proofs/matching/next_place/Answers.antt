@@ -17,7 +17,7 @@ meet_row-requires-clause-ready c = record {
 pub returns-then-meet_row-clause-small : goal.returns-then-meet_row-clause-small
 returns-then-meet_row-clause-small c =
     let few : length (rows_of c.args.question.now.target.now c.args.atom.now.table) < 2 ^ 32 =
-    c.tables-few.ensures.few (table_at c.args.question.now.target.now c.args.atom.now.table) (in_at c.args.question.now.target.now c.args.atom.now.table (record { width = 0; rows = [] }) (c.args.question.now.fit.tables c.args.atom.now c.requires.atom).0) in
+    c.tables.ensures.few (table_at c.args.question.now.target.now c.args.atom.now.table) (in_at c.args.question.now.target.now c.args.atom.now.table (record { width = 0; rows = [] }) (c.args.question.now.fit.tables c.args.atom.now c.requires.atom).0) in
     omega (arith, few, c.in-Some.ensures.1)
 
 pub returns-then-meet_row-clause-cases : goal.returns-then-meet_row-clause-cases
@@ -34,7 +34,7 @@ returns-then-meet_row-clause-cases c =
 pub overflow_add-next : goal.overflow_add-next
 overflow_add-next c =
     let few : length (rows_of c.args.question.now.target.now c.args.atom.now.table) < 2 ^ 32 =
-    c.tables-few.ensures.few (table_at c.args.question.now.target.now c.args.atom.now.table) (in_at c.args.question.now.target.now c.args.atom.now.table (record { width = 0; rows = [] }) (c.args.question.now.fit.tables c.args.atom.now c.requires.atom).0) in
+    c.tables.ensures.few (table_at c.args.question.now.target.now c.args.atom.now.table) (in_at c.args.question.now.target.now c.args.atom.now.table (record { width = 0; rows = [] }) (c.args.question.now.fit.tables c.args.atom.now c.requires.atom).0) in
     omega (arith, few, c.in-Some.ensures.1)
 
 pub loop-place-preserved : goal.loop-place-preserved

@@ -1,8 +1,11 @@
-use Rattle.std.proofs.Common.{subst, sym}
-use Rattle.dx_base.specs.Members.{◌∈◌}
-use Rattle.dx_base.proofs.Members.{in_at}
+use Rattle.std.proofs.Common.{◌≡◌, rules, tests}
+use Rattle.std.proofs.lemmas.Iterator.{first_from_find, YieldsList-from_slice}
 use Rattle.dx_instance.specs.declared.column_index.ColumnIndex.{ColumnIndex}
+use Rattle.dx_instance.proofs.AskedFacts.{found_item}
 use Rattle.dx_instance.proofs.table.index_of.Goals as goal
 
-pub returns-then-index-column : goal.returns-then-index-column
-returns-then-index-column c = (subst (λ (y : ColumnIndex). y ∈ c.args.indexes.now) (sym c.index-item.is) (in_at c.args.indexes.now c.loop-index.index-index c.index-item.result c.loop-index-test.true), c.if-index-column.true)
+pub returns : goal.returns
+returns c =
+    let xs = c.args.indexes.now in
+    let by_call = first_from_find _ _ _ (λ (x : ColumnIndex). x.column ≡ c.args.column) (λ x. Unit {0}) c.find.ensures.ran (YieldsList-from_slice xs (cc)) (λ x q k. search (rules, tests)) (λ x q k. search (rules, tests)) in
+    found_item (λ (x : ColumnIndex). x.column ≡ c.args.column) (λ x. Unit {0}) xs _ by_call

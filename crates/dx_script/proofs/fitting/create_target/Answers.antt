@@ -1,5 +1,5 @@
 use Rattle.std.proofs.Common.{length, arith, sym, ◌∙◌}
-use Rattle.std.specs.Prelude.{true, nat_eq}
+use Rattle.std.specs.Prelude.{nat_eq}
 use Rattle.dx_schema.specs.Names.{table_names_of}
 use Rattle.dx_script.proofs.Made.{named_count}
 use Rattle.dx_script.proofs.FitsTest.{same_number, all_created, none_created, one_created, other_created}

@@ -4,7 +4,7 @@ use Rattle.dx_script.proofs.step_parts.has_column.Goals as goal
 
 pub returns-in-Some : goal.returns-in-Some
 returns-in-Some c =
-    let t = table_there c.args.schema.now c.in-Some.number c.args.table.now c.tables-tables.ensures.facts (c.in-Some.ensures.some.0) (c.in-Some.ensures.some.1) in
+    let t = table_there c.args.schema.now c.in-Some.number c.args.table.now c.tables.ensures.facts (c.in-Some.ensures.some.0) (c.in-Some.ensures.some.1) in
     rw (t, c.is_some.ensures) c.column_named.ensures.none
 
 pub returns-in-None : goal.returns-in-None

@@ -1,15 +1,10 @@
-use Rattle.dx_base.proofs.Loops.{not_so, each_more, each_item, all_so}
+use Rattle.std.proofs.Common.{rules, tests}
+use Rattle.std.proofs.lemmas.Iterator.{cases_from_all, YieldsList-from_slice}
+use Rattle.dx_base.proofs.Asked.{all_tells}
 use Rattle.dx_script.specs.Fits.{TestFits}
 use Rattle.dx_script.proofs.step_parts.tests_fit.Goals as goal
 
-pub returns-then-not-test_fits : goal.returns-then-not-test_fits
-returns-then-not-test_fits c =
-    not_so c.if-not-test_fits.true c.test_fits.ensures
-    (each_item (TestFits c.args.before.now c.args.rule c.args.other) c.args.tests.now c.loop-test.test-index c.test-item.result c.loop-test-test.true c.test-item.is)
-
-pub loop-test-preserved : goal.loop-test-preserved
-loop-test-preserved c =
-    each_more (TestFits c.args.before.now c.args.rule c.args.other) c.args.tests.now c.loop-test.test-index c.test-item.result c.loop-test-test.true c.test-item.is c.loop-test.invariant (c.test_fits.ensures.0 c.if-not-test_fits.false)
-
 pub returns : goal.returns
-returns c = all_so (TestFits c.args.before.now c.args.rule c.args.other) c.args.tests.now c.loop-test.test-index c.loop-test-test.false c.loop-test.invariant (λ q. q)
+returns c =
+    let by_call = cases_from_all _ _ _ (TestFits c.args.before.now c.args.rule c.args.other) (λ x. ¬ (TestFits c.args.before.now c.args.rule c.args.other) x) c.all.ensures.ran (YieldsList-from_slice c.args.tests.now (cc)) (λ x q k. search (rules, tests)) (λ x q k. search (rules, tests)) in
+    all_tells (TestFits c.args.before.now c.args.rule c.args.other) (λ x. ¬ (TestFits c.args.before.now c.args.rule c.args.other) x) _ c.args.tests.now (λ x p q. q p) by_call

@@ -7,7 +7,7 @@ use Rattle.dx_script.proofs.step_parts.width_named.Goals as goal
 pub returns-in-Some : goal.returns-in-Some
 returns-in-Some c =
     c.from.ensures ∙ c.width.ensures.number
-    ∙ ap (λ (z : TableNames). length z.columns) (sym (table_there c.args.schema.now c.in-Some.number c.args.table.now c.tables-tables.ensures.facts (c.in-Some.ensures.some.0) (c.in-Some.ensures.some.1)))
+    ∙ ap (λ (z : TableNames). length z.columns) (sym (table_there c.args.schema.now c.in-Some.number c.args.table.now c.tables.ensures.facts (c.in-Some.ensures.some.0) (c.in-Some.ensures.some.1)))
 
 pub returns-in-None : goal.returns-in-None
 returns-in-None c =

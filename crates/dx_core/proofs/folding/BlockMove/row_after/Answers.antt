@@ -6,7 +6,7 @@ use Rattle.dx_core.proofs.folding.BlockMove.row_after.Goals as goal
 
 pub number_after-requires-clause-few : goal.number_after-requires-clause-few
 number_after-requires-clause-few c =
-    rw c.items-nulls.ensures (few_nulls c.args.numbers.now c.len-fit.ensures.fit c.args.self.now.block.now c.requires.block)
+    rw c.items-nulls.ensures (few_nulls c.args.numbers.now c.len.ensures.fit c.args.self.now.block.now c.requires.block)
 
 pub number_after-requires-clause-long : goal.number_after-requires-clause-long
 number_after-requires-clause-long c = rw c.items-nulls.ensures c.args.self.now.long

@@ -6,7 +6,7 @@ use Rattle.dx_core.proofs.sparing.Reduction.ask_without.Goals as goal
 
 pub atoms_of-requires-clause-few : goal.atoms_of-requires-clause-few
 atoms_of-requires-clause-few c =
-    rw c.items-nulls.ensures (few_nulls c.args.self.now.numbers c.len-fit.ensures.fit c.args.task.now.block.now c.requires.ready.tried)
+    rw c.items-nulls.ensures (few_nulls c.args.self.now.numbers c.len.ensures.fit c.args.task.now.block.now c.requires.ready.tried)
 
 pub atoms_of-requires-clause-ascend : goal.atoms_of-requires-clause-ascend
 atoms_of-requires-clause-ascend c = rw c.items-nulls.ensures c.requires.ready.tried.ascend
@@ -45,7 +45,7 @@ returns-clause-moves c =
     let own = rw c.items-rows.ensures at c.in_ok-own.ensures.out in
     let out = out_stays c.take_left.new.self.taken c.take_left-2.new.self.taken c.in_ok-gone.ensures.others at.table at.place
     (own at c.requires.row (c.requires.ready.tried.numbers.rows at c.requires.row)) in
-    told_away s.numbers c.len-fit.ensures.fit c.args.task.now.block.now c.requires.ready.tried s.taken s.marks
+    told_away s.numbers c.len.ensures.fit c.args.task.now.block.now c.requires.ready.tried s.taken s.marks
     c.in_ok-atoms.atoms.items c.args.task.now.known.items at c.requires.row
     (rw (c.items-nulls.ensures, c.items-rows.ensures) at c.in_ok-atoms.ensures.atoms) c.requires.ready.rigid
     c.take_left-2.new.self.taken out (λ u q e. c.in_ok-own.ensures.others u q (c.in_ok-gone.ensures.others u q e))

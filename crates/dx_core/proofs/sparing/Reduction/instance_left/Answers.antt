@@ -10,7 +10,7 @@ from_rows-requires-clause-fit c =
     c.tables-table-end.ensures c.loop-table.auto.table-end c.loop-table-test.false
     c.loop-table.invariant in
     rw c.in_ok-copy_symbols.ensures (new_fit n.symbols (shown_by n) c.args.self.now.taken n.tables c.loop-table.tables.items
-    refl c.len-fit.ensures.fit k)
+    refl c.len.ensures.fit k)
 
 pub returns-clause-facts : goal.returns-clause-facts
 returns-clause-facts c =
@@ -19,7 +19,7 @@ returns-clause-facts c =
     c.tables-table-end.ensures c.loop-table.auto.table-end c.loop-table-test.false
     c.loop-table.invariant in
     told c.from_rows.result (new_facts n.symbols (shown_by n) c.args.self.now.taken n.tables c.loop-table.tables.items
-    refl c.len-fit.ensures.fit k)
+    refl c.len.ensures.fit k)
     (rw c.in_ok-copy_symbols.ensures at c.from_rows.ensures)
 
 pub returns-clause-widths : goal.returns-clause-widths
@@ -29,5 +29,5 @@ returns-clause-widths c =
     c.tables-table-end.ensures c.loop-table.auto.table-end c.loop-table-test.false
     c.loop-table.invariant in
     told c.from_rows.result (new_widths n.symbols (shown_by n) c.args.self.now.taken n.tables c.loop-table.tables.items
-    refl c.len-fit.ensures.fit k)
+    refl c.len.ensures.fit k)
     (rw c.in_ok-copy_symbols.ensures at c.from_rows.ensures)

@@ -11,13 +11,13 @@ loop-at-init c = record { numbers = refl; there = c.requires; back = refl }
 
 pub put_back-requires-clause-table : goal.put_back-requires-clause-table
 put_back-requires-clause-table c =
-    mark_table c.args.self.now.numbers c.len-fit.ensures.fit c.loop-at.self.taken c.in-Some.at
+    mark_table c.args.self.now.numbers c.len.ensures.fit c.loop-at.self.taken c.in-Some.at
     (rw c.loop-at.invariant.numbers at c.loop-at.self.marks)
     (c.loop-at.invariant.there c.in-Some.at (last_in c.loop-at.left.items c.pop.new.self.items c.in-Some.at c.in-Some.ensures.items))
 
 pub put_back-requires-clause-place : goal.put_back-requires-clause-place
 put_back-requires-clause-place c =
-    mark_place c.args.self.now.numbers c.len-fit.ensures.fit c.loop-at.self.taken c.in-Some.at
+    mark_place c.args.self.now.numbers c.len.ensures.fit c.loop-at.self.taken c.in-Some.at
     (rw c.loop-at.invariant.numbers at c.loop-at.self.marks)
     (c.loop-at.invariant.there c.in-Some.at (last_in c.loop-at.left.items c.pop.new.self.items c.in-Some.at c.in-Some.ensures.items))
 

@@ -13,7 +13,7 @@ returns-then-has-clause-reduct c = reduct_itself (facts_left c.args.self.now.num
 pub returns-then-has-clause-needed : goal.returns-then-has-clause-needed
 returns-then-has-clause-needed c = λ m.
     let s = c.args.self.now in
-    let l = row_left s.numbers c.len-fit.ensures.fit s.taken c.args.at (c.requires.ready.tried.numbers.rows c.args.at c.requires.at) m in
+    let l = row_left s.numbers c.len.ensures.fit s.taken c.args.at (c.requires.ready.tried.numbers.rows c.args.at c.requires.at) m in
     absurd (true≢false (sym c.if-has.true ∙ (c.has.ensures ∙ l)))
 
 pub spare_in_small-requires : goal.spare_in_small-requires
@@ -46,7 +46,7 @@ returns-in-None-clause-known c =
     let keeps = rw (c.in_ok-alone.ensures.numbers, c.items-nulls.ensures) at c.keep_nulls.ensures in
     rw c.in_ok-alone.ensures.taken
     (keeps (facts_left s.numbers s.taken) (λ x i j.
-    nulls_kept s.numbers c.len-fit.ensures.fit c.args.at (c.requires.ready.tried.numbers.rows c.args.at c.requires.at)
+    nulls_kept s.numbers c.len.ensures.fit c.args.at (c.requires.ready.tried.numbers.rows c.args.at c.requires.at)
     (facts_left s.numbers s.taken) none x i (c.requires.ready.tried.numbers.nulls x j)) c.requires.ready.rigid)
 
 pub ask_all-requires-clause-asked : goal.ask_all-requires-clause-asked

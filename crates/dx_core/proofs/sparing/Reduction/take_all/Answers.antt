@@ -9,12 +9,12 @@ use Rattle.dx_core.proofs.sparing.Reduction.take_all.Goals as goal
 
 pub take_out-requires-clause-table : goal.take_out-requires-clause-table
 take_out-requires-clause-table c =
-    mark_table c.args.self.now.numbers c.len-fit.ensures.fit c.loop-at.self.taken _ (rw c.loop-at.invariant.numbers at c.loop-at.self.marks)
+    mark_table c.args.self.now.numbers c.len.ensures.fit c.loop-at.self.taken _ (rw c.loop-at.invariant.numbers at c.loop-at.self.marks)
     (c.requires _ (in_at c.args.rows.now c.loop-at.at-index first_at c.loop-at-test.true))
 
 pub take_out-requires-clause-place : goal.take_out-requires-clause-place
 take_out-requires-clause-place c =
-    mark_place c.args.self.now.numbers c.len-fit.ensures.fit c.loop-at.self.taken _ (rw c.loop-at.invariant.numbers at c.loop-at.self.marks)
+    mark_place c.args.self.now.numbers c.len.ensures.fit c.loop-at.self.taken _ (rw c.loop-at.invariant.numbers at c.loop-at.self.marks)
     (c.requires _ (in_at c.args.rows.now c.loop-at.at-index first_at c.loop-at-test.true))
 
 pub loop-at-init : goal.loop-at-init
@@ -25,7 +25,7 @@ loop-at-preserved c =
     let N = c.args.self.now.numbers in
     record {
       numbers = c.loop-at.invariant.numbers;
-      rows = rw c.take_out.ensures (out_more N c.len-fit.ensures.fit c.args.rows.now c.requires c.args.self.now.taken c.loop-at.self.taken
+      rows = rw c.take_out.ensures (out_more N c.len.ensures.fit c.args.rows.now c.requires c.args.self.now.taken c.loop-at.self.taken
           (rw c.loop-at.invariant.numbers at c.loop-at.self.marks) c.loop-at.at-index c.loop-at-test.true c.loop-at.invariant.rows);
     }
 

@@ -35,7 +35,7 @@ returns-then-agrees c =
 
 pub overflow_add-next : goal.overflow_add-next
 overflow_add-next c =
-    let few : length (rows_of c.args.self.now.instance.now c.args.table) < 2 ^ 32 = c.tables-few.ensures.few (table_at c.args.self.now.instance.now c.args.table) (in_at c.args.self.now.instance.now c.args.table (record { width = 0; rows = [] }) c.requires.table) in
+    let few : length (rows_of c.args.self.now.instance.now c.args.table) < 2 ^ 32 = c.tables.ensures.few (table_at c.args.self.now.instance.now c.args.table) (in_at c.args.self.now.instance.now c.args.table (record { width = 0; rows = [] }) c.requires.table) in
     omega (arith, few, c.in-Some.ensures.1)
 
 pub loop-place-preserved : goal.loop-place-preserved

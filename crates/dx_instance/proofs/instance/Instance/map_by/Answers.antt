@@ -1,4 +1,4 @@
-use Rattle.std.proofs.Common.{length, map}
+use Rattle.std.proofs.Common.{length}
 use Rattle.dx_instance.specs.Images.{AreImages}
 use Rattle.dx_instance.proofs.SortFacts.{if_ok, instance_maps}
 use Rattle.dx_instance.proofs.instance.Instance.map_by.Goals as goal

@@ -1,31 +1,11 @@
-use Rattle.std.proofs.Common.{refl, ◌∙◌, sym, subst, ℕ, List, get_or}
-use Rattle.std.proofs.lemmas.Bool.{false≢true, true≢false}
-use Rattle.std.proofs.lemmas.List.{get_or_default, take_all}
-use Rattle.dx_base.specs.Members.{◌∈◌}
-use Rattle.dx_base.proofs.Members.{in_at}
-use Rattle.dx_base.proofs.Loops.{each_more}
+use Rattle.std.proofs.lemmas.Iterator.{cases_from_any, YieldsList-from_slice}
+use Rattle.dx_base.proofs.Asked.{any_tells}
+use Rattle.std.proofs.Common.{ℕ, rules, tests}
 use Rattle.dx_joins.specs.Knowing.{IsKnown}
 use Rattle.dx_joins.proofs.known.Known.meets.Goals as goal
 
-pub returns-then-has : goal.returns-then-has
-returns-then-has c =
-    let xs = c.deref-variable-items.result.now in
-    let x = get_or xs c.loop-variable.variable-index 0 in (
-      (λ _. (x, subst (λ (l : List ℕ). x ∈ l) c.deref-variable-items.ensures.value (in_at xs c.loop-variable.variable-index 0 c.loop-variable-test.true), c.has.ensures.0 c.if-has.true)),
-      (λ _. refl),
-    )
-
-pub loop-variable-preserved : goal.loop-variable-preserved
-loop-variable-preserved c =
-    let xs = c.deref-variable-items.result.now in
-    let x = get_or xs c.loop-variable.variable-index 0 in
-    each_more (λ (z : ℕ). ¬ (IsKnown c.args.self.now z)) xs c.loop-variable.variable-index x c.loop-variable-test.true
-    (get_or_default xs c.loop-variable.variable-index 0 x c.loop-variable-test.true) c.loop-variable.invariant
-    (λ k. true≢false (sym (c.has.ensures.1 k) ∙ c.if-has.false))
-
 pub returns : goal.returns
-returns c = (
-  (λ t. absurd (false≢true t)),
-  (λ q. absurd ((rw (take_all c.loop-variable.variable-index c.deref-variable-items.result.now c.loop-variable-test.false) at c.loop-variable.invariant) q.0
-      (subst (λ (l : List ℕ). q.0 ∈ l) (sym c.deref-variable-items.ensures.value) q.1) q.2)),
-)
+returns c =
+    let xs = c.args.pattern.now.variables.items in
+    let by_call = cases_from_any _ _ _ (λ (z : ℕ). IsKnown c.args.self.now z) (λ z. ¬ (IsKnown c.args.self.now z)) c.any.ensures.ran (YieldsList-from_slice xs cc) (λ x q k. search (rules, tests)) (λ x q k. search (rules, tests)) in
+    any_tells (λ (z : ℕ). IsKnown c.args.self.now z) (λ z. ¬ (IsKnown c.args.self.now z)) _ xs (λ z p n. n p) by_call

@@ -1,5 +1,0 @@
-use Rattle.dx_holds.proofs.Determining.{DetermineTo}
-use Rattle.dx_holds.proofs.keys.determine.Given as goal
-
-abbrev pub invariant-loop-place : goal.invariant-loop-place
-invariant-loop-place l = DetermineTo l.instance l.table l.left l.right l.place

@@ -1,8 +1,0 @@
-use Rattle.std.proofs.Common.{◌≡◌, ℕ, take}
-use Rattle.dx_base.specs.Members.{◌∈◌, Each}
-use Rattle.dx_model.specs.declared.rules.Cell.TheVariants.{Ex}
-use Rattle.dx_holds.specs.Searching.{found_variables}
-use Rattle.dx_holds.proofs.searching.has_found.Given as goal
-
-abbrev pub invariant-loop-cell : goal.invariant-loop-cell
-invariant-loop-cell l = Each (take l.cell-index l.cells) (λ z. (v : ℕ) → z ≡ Ex v → ¬ (v ∈ found_variables l.found))
