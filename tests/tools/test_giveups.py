@@ -73,6 +73,15 @@ GIVES_UP = [
     "ExitCode::from(NINE)",
     "ExitCode::from(4 + 5)",
     "let status = 9; ExitCode::from(status)",
+    "Vec::with_capacity(alloc, usize::MAX)?",
+    "Vec::with_capacity(alloc, ROWS)?",
+    "Vec::with_capacity(alloc, count as usize * 1048576)?",
+    "Vec::with_capacity(alloc, (count as usize * width).saturating_mul(1 << 20))?",
+    "Index::with_capacity(alloc, count * count)?",
+    "Index::with_capacity(alloc, count.saturating_mul(count))?",
+    "self.cells.reserve(rows.len() << 20)?",
+    "self.cells.reserve(rows.len().pow(2))?",
+    "let room = 4294967296; list.reserve(room)?",
 ]
 
 # What passes an answer on, or gives none.
@@ -116,6 +125,12 @@ GOES_ON = [
     "ExitCode::from(0)",
     "match x { Err(AllocError) => ExitCode::from(9), Ok(y) => ExitCode::from(y) }",
     "x.map_or_else(|_: AllocError| ExitCode::from(9), |y| y)",
+    "Vec::with_capacity(alloc, 0)?",
+    "Vec::with_capacity(alloc, rows.len())?",
+    "Vec::with_capacity(alloc, count as usize * width)?",
+    "Vec::with_capacity(alloc, first.len().saturating_add(second.len()),)?",
+    "self.before.reserve(1)?",
+    "text.repeat(alloc, most + 1)?",
 ]
 
 # Items, and how many places each has.
