@@ -11,7 +11,7 @@ use Rattle.dx_schema.specs.declared.fault.SchemaKind.TheVariants as schema_kinds
 use Rattle.dx_tokens.specs.Quoted.{quoted}
 use Rattle.dx_tokens.specs.declared.faults.TextKind.{TextKind}
 use Rattle.dx_tokens.specs.declared.faults.TextKind.TheVariants as text_kinds
-use Rattle.dx_rule_text.specs.Printed.{separated}
+use Rattle.dx_schema_text.specs.Print.{names_text}
 use Rattle.dx_csv.specs.declared.fault.RowKind.{RowKind}
 use Rattle.dx_csv.specs.declared.fault.RowKind.TheVariants as kinds
 use Rattle.dx_json.specs.declared.fault.JsonKind.{JsonKind}
@@ -127,7 +127,7 @@ text_in row column = constant_text (slice_index_or row column (Const []))
 abbrev pub clash_text : Clash → Text → List Text → Text → Text
 clash_text c table key column =
     codes "table " ++ (table ++ (codes ", key ("
-    ++ (separated key ++ (codes "): "
+    ++ (names_text key ++ (codes "): "
     ++ (quoted (text_in c.left c.column)
     ++ (codes " and " ++ (quoted (text_in c.right c.column) ++ (codes " in column " ++ column))))))))
 

@@ -1,7 +1,7 @@
 // The names of a clash, and its text.
 ghost use Rattle.std.specs.Prelude.{◌≡◌, ◌++◌, [], IfOk, OnOk, codes, map, string_bytes};
 ghost use Rattle.dx_tokens.specs.Quoted.{quoted};
-ghost use Rattle.dx_rule_text.specs.Printed.{separated, table_name as table_text};
+ghost use Rattle.dx_rule_text.specs.Printed.{table_name as table_text};
 ghost use Rattle.clio_ending.specs.Ending.{column_text, left_columns, named_clash};
 ghost use Rattle.clio_ending.specs.Message.{clash_text, text_in};
 
@@ -11,6 +11,7 @@ use dx_instance::{Row, Value};
 use dx_keys::Clash;
 use dx_rule_text::push_string;
 use dx_schema::Schema;
+use dx_schema_text::push_names;
 use std::alloc::{AllocError, Global};
 
 // The name of a table, and the empty text if there is no such table.
@@ -87,21 +88,6 @@ pub fn named_clash(alloc: Global, clash: Clash, target: &Schema) -> Result<Refus
         key,
         column,
     })
-}
-
-// Names, with a comma and a space between.
-fn push_names(names: &[Text], out: &mut String) -> Result<(), AllocError>
-    ensures { OnOk result (string_bytes out.new ≡ string_bytes out.old ++ separated names.now) }
-{
-    let Some((name, others)) = names.split_first() else {
-        return Ok(());
-    };
-    out.push_str(name.as_str())?;
-    for other in others {
-        out.push_str(", ")?;
-        out.push_str(other.as_str())?;
-    }
-    Ok(())
 }
 
 // The text in a column of a row as a string.

@@ -23,7 +23,7 @@ pub use laws::{
     what_is_said_is_of_its_version, what_is_said_is_writable,
 };
 pub use lexemes::{after_keyword, after_mark, after_number, keyword, next_is_keyword};
-pub use print::print_trees;
+pub use print::{print_trees, push_names};
 pub use read::{judged, read_mapping};
 pub use rules::{atoms, cells};
 pub use texts::{

@@ -7,8 +7,12 @@ use dx_base::Text;
 use dx_schema::{DepDecl, KeyDecl, RefDecl, SetTree};
 use std::alloc::{AllocError, Global};
 
-// Names, parted by a comma and a space.
-fn push_names(names: &[Text], out: &mut String) -> Result<(), AllocError>
+/// Names, parted by a comma and a space.
+///
+/// # Errors
+///
+/// `AllocError` if there is no memory.
+pub fn push_names(names: &[Text], out: &mut String) -> Result<(), AllocError>
     ensures { OnOk result (string_bytes out.new ≡ string_bytes out.old ++ names_text names.now) }
 {
     let Some((name, others)) = names.split_first() else {
