@@ -6,8 +6,8 @@ ghost use Rattle.dx_chase.specs.Parts.{LieFrom, demands_in, chase_part_at, picke
 ghost use Rattle.dx_chase.specs.Repeats.{PartsAndIndex, columns_listed};
 ghost use Rattle.dx_chase.specs.Rows.{AddsRows, AddsTable, DemandsOfRows, ColumnsFit, determination_columns, determination_count, number_row, row_count};
 
-use crate::classes::append;
 use crate::index::Index;
+use crate::members::append;
 use crate::numbers::NumberList;
 use crate::tables::{Columns, NumberTable};
 use dx_base::no_number_left;
