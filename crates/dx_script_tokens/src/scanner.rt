@@ -148,23 +148,29 @@ fn begun(alloc: Global, place: u64, b: u8) -> Result<Option<ScriptToken>, AllocE
     }
 }
 
-// These tokens, and the fault after them, in what begins with the byte `b` at `begin`.
+// Where a piece begins, and its first byte.
+#[derive(Drop)]
+struct Beginning {
+    place: u64,
+    byte: u8,
+}
+
+// These tokens, and the fault after them, in the piece with this beginning.
 fn stopped_at(
     alloc: Global,
     tokens: Items<ScriptToken>,
-    begin: u64,
+    begin: Beginning,
     place: u64,
     kind: TextKind,
-    b: u8,
 ) -> Result<ScriptScan, AllocError>
-    ensures { IfOk result (λ s. s ≡ with_tokens tokens (script_stopped (stop_at begin place kind b))) }
+    ensures { IfOk result (λ s. s ≡ with_tokens tokens (script_stopped (stop_at begin.place place kind begin.byte))) }
 {
     Ok(ScriptScan {
         tokens,
         stop: Some(ScriptStop {
             place,
             kind,
-            begun: begun(alloc, begin, b)?,
+            begun: begun(alloc, begin.place, begin.byte)?,
         }),
     })
 }
@@ -193,14 +199,20 @@ pub fn scan_script(alloc: Global, text: &[u8]) -> Result<ScriptScan, AllocError>
                 place += len;
             }
             Piece::Fault(offset) => {
-                let begin = place as u64;
+                let begin = Beginning {
+                    place: place as u64,
+                    byte: *b,
+                };
                 let at = (place + offset) as u64;
-                return stopped_at(alloc, tokens, begin, at, TextKind::Character, *b);
+                return stopped_at(alloc, tokens, begin, at, TextKind::Character);
             }
             Piece::Cut => {
-                let begin = place as u64;
+                let begin = Beginning {
+                    place: place as u64,
+                    byte: *b,
+                };
                 let end = text.len() as u64;
-                return stopped_at(alloc, tokens, begin, end, TextKind::Ended, *b);
+                return stopped_at(alloc, tokens, begin, end, TextKind::Ended);
             }
         }
     }
