@@ -18,31 +18,37 @@ use dx_schema_text::{LineText, PlaceText, SourceText};
 use dx_tokens::{TextFault, TextKind};
 use std::alloc::{AllocError, Global};
 
+// A name, and where it stands.
+#[derive(Clone, Copy)]
+struct PlacedName<'a> {
+    name: &'a Text,
+    place: u64,
+}
+
 // A conversion of columns.
 fn read_call<F, M>(
     alloc: Global,
     schema: &Schema,
     host: &Host<F, M>,
-    name: &Text,
-    place: u64,
+    called: PlacedName<'_>,
     args: &[PlaceText],
 ) -> Result<Origin, TextFault>
 where
     F: Fn(u32, &Items<Text>) -> Result<Text, AllocError>,
     M: Meaning,
     ensures { ReadsOrMemory result
-        (call_of schema.now (first_named (offered host.now) name.now) args.now)
-        (source_call_fault schema.now (first_named (offered host.now) name.now) place args.now) }
+        (call_of schema.now (first_named (offered host.now) called.entry.name.now) args.now)
+        (source_call_fault schema.now (first_named (offered host.now) called.entry.name.now) called.entry.place args.now) }
 {
-    let Some(conversion) = host.find(name) else {
+    let Some(conversion) = host.find(called.name) else {
         return Err(TextFault::At {
-            place,
+            place: called.place,
             kind: TextKind::UnknownName,
         });
     };
     if conversion.arity as usize != args.len() {
         return Err(TextFault::At {
-            place,
+            place: called.place,
             kind: TextKind::Width,
         });
     }
@@ -70,7 +76,11 @@ where
         SourceText::Column(place) => Ok(Origin::Column(read_place(schema, place)?)),
         SourceText::Literal(text) => Ok(Origin::Literal(text.copy()?)),
         SourceText::Call { name, place, args } => {
-            read_call(alloc, schema, host, name, *place, args.items())
+            let called = PlacedName {
+                name,
+                place: *place,
+            };
+            read_call(alloc, schema, host, called, args.items())
         }
     }
 }

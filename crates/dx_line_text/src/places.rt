@@ -4,6 +4,7 @@ ghost use Rattle.dx_line_text.specs.Answers.{AnswersOrFault, ReadsOrMemory};
 ghost use Rattle.dx_line_text.specs.Naming.{place_fault, place_of_text, places_fault};
 
 use dx_base::Items;
+use dx_base::limits::TABLES;
 use dx_lines::Place;
 use dx_schema::Schema;
 use dx_schema_text::PlaceText;
@@ -15,7 +16,7 @@ pub fn read_place(schema: &Schema, place: &PlaceText) -> Result<Place, TextFault
     ensures { AnswersOrFault result (place_of_text schema.now place.now) (place_fault schema.now place.now) }
 {
     // What holds of the tables of each schema.
-    let _tables = schema.tables();
+    prove!(schema.tables() as u64 <= TABLES);
     let Some(table) = schema.table_named(&place.set) else {
         return Err(TextFault::At {
             place: place.set_place,

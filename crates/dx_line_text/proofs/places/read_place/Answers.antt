@@ -7,8 +7,8 @@ returns-in_default c = unknown_set c.args.schema.now c.args.place.now (λ m. fal
 
 pub returns-in_default-column_named : goal.returns-in_default-column_named
 returns-in_default-column_named c =
-    unknown_column c.args.schema.now c.args.place.now c.in-Some.table c.tables-tables.ensures.facts c.in-Some.ensures.some.0 c.in-Some.ensures.some.1 (λ m. false≢true (c.in_default-column_named.ensures.none.1 m))
+    unknown_column c.args.schema.now c.args.place.now c.in-Some.table c.tables.ensures.facts c.in-Some.ensures.some.0 c.in-Some.ensures.some.1 (λ m. false≢true (c.in_default-column_named.ensures.none.1 m))
 
 pub returns : goal.returns
 returns c =
-    place_found c.args.schema.now c.args.place.now c.in-Some.table c.in-Some-column_named.column c.tables-tables.ensures.facts c.in-Some.ensures.some.0 c.in-Some.ensures.some.1 c.in-Some-column_named.ensures.some.0 c.in-Some-column_named.ensures.some.1
+    place_found c.args.schema.now c.args.place.now c.in-Some.table c.in-Some-column_named.column c.tables.ensures.facts c.in-Some.ensures.some.0 c.in-Some.ensures.some.1 c.in-Some-column_named.ensures.some.0 c.in-Some-column_named.ensures.some.1
