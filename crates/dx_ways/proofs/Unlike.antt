@@ -1,5 +1,5 @@
 -- Lists of what is unlike all before it.
-use Rattle.std.proofs.Common.{◌≡◌, ℕ, ◌+◌, ◌<◌, Bool, true, false, cond, List, [], ◌∷◌, ◌++◌, ◌⊎◌, inl, inr, length, get_or, drop, refl, sym, ◌∙◌, ap, eqb}
+use Rattle.std.proofs.Common.{◌≡◌, ℕ, ◌+◌, ◌<◌, ◌||◌, Bool, true, false, cond, List, [], ◌∷◌, ◌++◌, ◌⊎◌, inl, inr, length, get_or, drop, refl, sym, ◌∙◌, ap, eqb}
 use Rattle.std.specs.Prelude.{map}
 use Rattle.std.specs.List.{list_any}
 use Rattle.std.proofs.lemmas.Bool.{cases_Bool, cond-true, cond-false, false≢true}
@@ -11,6 +11,11 @@ use Rattle.dx_lines.specs.declared.line.Place.{Place}
 use Rattle.dx_lines.specs.Ways.{is_of, variable_in}
 use Rattle.dx_ways.specs.Tried.{column_of, with_unlike}
 use Rattle.dx_base.proofs.Tests.{from_any}
+
+-- whether some item passes, of items that are shown otherwise
+pub any_map : {X Y : Type 0} (p : X → Bool) (h : Y → X) (ys : List Y) → list_any p (map h ys) ≡ list_any (λ y. p (h y)) ys
+any_map p h [] = refl
+any_map p h (y ∷ ys) = ap (λ (b : Bool). p (h y) || b) (any_map p h ys)
 
 -- ---- steps of the loops
 

@@ -10,7 +10,7 @@ ghost use Rattle.dx_ways.specs.Tried.{put_all};
 
 use crate::fault::WaysFault;
 use crate::seen::{column_variables, has_tables, named, unlike};
-use crate::trying::add_tried;
+use crate::trying::Trial;
 use dx_lines::{Line, Origin, Pick};
 use dx_logical::Occurrence;
 use std::alloc::Global;
@@ -41,7 +41,12 @@ fn add_line(
     if !has_tables(&among, places) {
         return Ok(());
     }
-    add_tried(alloc, &line.source, &variables, &among, places, &[], found)
+    let trial = Trial {
+        source: &line.source,
+        variables: &variables,
+        among: &among,
+    };
+    trial.add_tried(alloc, places, &[], found)
 }
 
 /// The ways that lines give between occurrences of source tables and of target tables, ascending.

@@ -35,12 +35,7 @@ pub fn pick_order(a: &Pick, b: &Pick) -> Ordering
 pub fn is_among(found: &[Pick], pick: &Pick) -> bool
     ensures { result ≡ is_pick_among found.now pick.now }
 {
-    for one in found {
-        if pick_order(pick, one).is_eq() {
-            return true;
-        }
-    }
-    false
+    found.iter().any(|one| pick_order(pick, one).is_eq())
 }
 
 /// A term of its own that is the same.

@@ -2,7 +2,7 @@
 ghost use Rattle.std.specs.Prelude.{◌≡◌, [], IfOk, eqb, map};
 ghost use Rattle.std.specs.List.{list_any};
 ghost use Rattle.dx_lines.specs.Ways.{is_of, named_columns, term_by, variable_at as variable_at_of, variable_in as variable_in_of};
-ghost use Rattle.dx_ways.specs.Tried.{column_of, has_tables as has_tables_of, is_like as is_like_of, one_or_none, with_unlike};
+ghost use Rattle.dx_ways.specs.Tried.{agrees_in as agrees_in_of, column_of, has_tables as has_tables_of, is_like as is_like_of, one_or_none, with_unlike};
 
 use dx_base::Items;
 use dx_lines::{Origin, Place, Term};
@@ -49,33 +49,25 @@ pub fn column_variables(
     Ok(variables)
 }
 
+/// Whether the column is no column of the first occurrence's table, or the second shows the same in it.
+fn agrees_in(one: &Occurrence, other: &Occurrence, place: Place) -> bool
+    ensures { result ≡ agrees_in_of one.now other.now place }
+{
+    place.table != one.table || variable_in(one, place.column) == variable_in(other, place.column)
+}
+
 /// Whether two occurrences are of one table and show the same in those of these columns that are the table's.
 fn is_like(places: &[Place], one: &Occurrence, other: &Occurrence) -> bool
     ensures { result ≡ is_like_of places.now one.now other.now }
 {
-    if one.table != other.table {
-        return false;
-    }
-    for place in places {
-        if place.table == one.table
-            && variable_in(one, place.column) != variable_in(other, place.column)
-        {
-            return false;
-        }
-    }
-    true
+    one.table == other.table && places.iter().all(|place| agrees_in(one, other, *place))
 }
 
 /// Whether one of the occurrences is like this one.
 fn has_like(places: &[Place], found: &[&Occurrence], occurrence: &Occurrence) -> bool
     ensures { result ≡ list_any (λ o. is_like_of places.now o occurrence.now) (map (λ r. r.now) found.now) }
 {
-    for one in found {
-        if is_like(places, one, occurrence) {
-            return true;
-        }
-    }
-    false
+    found.iter().any(|one| is_like(places, one, occurrence))
 }
 
 /// The occurrences of which none is like an earlier one.
@@ -99,24 +91,14 @@ pub fn unlike<'a>(
 pub fn has_table(choice: &[&Occurrence], table: u32) -> bool
     ensures { result ≡ list_any (is_of table) (map (λ r. r.now) choice.now) }
 {
-    for occurrence in choice {
-        if occurrence.table == table {
-            return true;
-        }
-    }
-    false
+    choice.iter().any(|occurrence| occurrence.table == table)
 }
 
 /// Whether a choice has an occurrence of each table that these columns name.
 pub fn has_tables(choice: &[&Occurrence], places: &[Place]) -> bool
     ensures { result ≡ has_tables_of (map (λ r. r.now) choice.now) places.now }
 {
-    for place in places {
-        if !has_table(choice, place.table) {
-            return false;
-        }
-    }
-    true
+    places.iter().all(|place| has_table(choice, place.table))
 }
 
 /// The variable that stands in a column at the occurrence that is chosen for its table.

@@ -80,26 +80,6 @@ fn add_term(
     Ok(())
 }
 
-/// Puts in what a line's source gives the variables under a choice.
-fn add_picks(
-    alloc: Global,
-    source: &Origin,
-    variables: &[u32],
-    choice: &[&Occurrence],
-    found: &mut Vec<Pick>,
-) -> Result<(), WaysFault>
-    requires { length found.old.items ≤ WAYS }
-    ensures all { OnOk result (found.new.items ≡ put_all found.old.items (picks_by source.now variables.now (behind choice.now))) }
-    ensures few { OnOk result (length found.new.items ≤ WAYS) }
-    ensures many { IfErr result (λ e. e ≡ TooMany
-        → ExceedsWays (put_all found.old.items (picks_by source.now variables.now (behind choice.now)))) }
-{
-    match term_of(alloc, source, choice)? {
-        None => Ok(()),
-        Some(term) => add_term(alloc, &term, variables, found),
-    }
-}
-
 /// A choice with an occurrence as well.
 fn with_occurrence<'a>(
     alloc: Global,
@@ -114,35 +94,64 @@ fn with_occurrence<'a>(
     Ok(more)
 }
 
-/// Puts in what a line's source gives the variables under each choice that has an occurrence as well for each table that
-/// the columns name.
-pub fn add_tried<'a>(
-    alloc: Global,
-    source: &Origin,
-    variables: &[u32],
-    among: &[&'a Occurrence],
-    places: &[Place],
-    choice: &[&'a Occurrence],
-    found: &mut Vec<Pick>,
-) -> Result<(), WaysFault>
-    requires { length found.old.items ≤ WAYS }
-    ensures all { OnOk result (found.new.items
-        ≡ put_all found.old.items (tried source.now variables.now (behind among.now) places.now (behind choice.now))) }
-    ensures few { OnOk result (length found.new.items ≤ WAYS) }
-    ensures many { IfErr result (λ e. e ≡ TooMany
-        → ExceedsWays (put_all found.old.items (tried source.now variables.now (behind among.now) places.now (behind choice.now)))) }
-{
-    let Some((first, rest)) = places.split_first() else {
-        return add_picks(alloc, source, variables, choice, found);
-    };
-    if has_table(choice, first.table) {
-        return add_tried(alloc, source, variables, among, rest, choice, found);
-    }
-    for occurrence in among {
-        if occurrence.table == first.table {
-            let more = with_occurrence(alloc, occurrence, choice)?;
-            add_tried(alloc, source, variables, among, rest, &more, found)?;
+/// What is tried for a line: the source that gives the terms, the variables that get them, and the occurrences that are
+/// chosen from.
+#[derive(Clone, Copy)]
+pub struct Trial<'a> {
+    pub source: &'a Origin,
+    pub variables: &'a [u32],
+    pub among: &'a [&'a Occurrence],
+}
+
+impl<'a> Trial<'a> {
+    /// Puts in what the source gives the variables under a choice.
+    fn add_picks(
+        &self,
+        alloc: Global,
+        choice: &[&Occurrence],
+        found: &mut Vec<Pick>,
+    ) -> Result<(), WaysFault>
+        requires { length found.old.items ≤ WAYS }
+        ensures all { OnOk result (found.new.items
+            ≡ put_all found.old.items (picks_by self.now.source.now self.now.variables.now (behind choice.now))) }
+        ensures few { OnOk result (length found.new.items ≤ WAYS) }
+        ensures many { IfErr result (λ e. e ≡ TooMany → ExceedsWays
+            (put_all found.old.items (picks_by self.now.source.now self.now.variables.now (behind choice.now)))) }
+    {
+        match term_of(alloc, self.source, choice)? {
+            None => Ok(()),
+            Some(term) => add_term(alloc, &term, self.variables, found),
         }
     }
-    Ok(())
+
+    /// Puts in what the source gives the variables under each choice that has an occurrence as well for each table that
+    /// the columns name.
+    pub fn add_tried(
+        &self,
+        alloc: Global,
+        places: &[Place],
+        choice: &[&'a Occurrence],
+        found: &mut Vec<Pick>,
+    ) -> Result<(), WaysFault>
+        requires { length found.old.items ≤ WAYS }
+        ensures all { OnOk result (found.new.items ≡ put_all found.old.items (tried self.now.source.now
+            self.now.variables.now (behind self.now.among.now) places.now (behind choice.now))) }
+        ensures few { OnOk result (length found.new.items ≤ WAYS) }
+        ensures many { IfErr result (λ e. e ≡ TooMany → ExceedsWays (put_all found.old.items (tried self.now.source.now
+            self.now.variables.now (behind self.now.among.now) places.now (behind choice.now)))) }
+    {
+        let Some((first, rest)) = places.split_first() else {
+            return self.add_picks(alloc, choice, found);
+        };
+        if has_table(choice, first.table) {
+            return self.add_tried(alloc, rest, choice, found);
+        }
+        for occurrence in self.among {
+            if occurrence.table == first.table {
+                let more = with_occurrence(alloc, occurrence, choice)?;
+                self.add_tried(alloc, rest, &more, found)?;
+            }
+        }
+        Ok(())
+    }
 }
