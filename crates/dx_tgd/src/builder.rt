@@ -10,7 +10,7 @@ ghost use Rattle.dx_tgd.specs.Asked.{HasRoomFor};
 ghost use Rattle.dx_tgd.specs.Gained.{GainsFacts};
 ghost use Rattle.dx_tgd.specs.Planned.{IsPlannedAtom, built};
 
-use crate::planned::PlannedAtom;
+use crate::planned::{NumberedPlaces, PlannedAtom};
 use crate::planning::planned_atoms;
 use dx_instance::{Instance, Rows, Symbols, Value};
 use dx_model::Rule;
@@ -60,7 +60,7 @@ impl Builder {
         ensures apart { ValuesDiffer result.now }
     {
         // The call tells that no value has two numbers.
-        let _few = self.symbols.len();
+        prove!(self.symbols.len() <= u32::MAX as u64);
         &self.symbols
     }
 
@@ -78,29 +78,20 @@ impl Builder {
         Ok(self.symbols.intern(value)? as u32)
     }
 
-    /// The plan of a rule's conclusion, for so many places. Its literals and nulls become symbols.
+    /// The plan of a rule's conclusion, for these places. Its literals and nulls become symbols.
     pub(crate) fn plan(
         &mut self,
         alloc: Global,
         rule: &Rule,
-        number: u32,
-        variables: &[u32],
-        places: u32,
+        at: &NumberedPlaces<'_>,
     ) -> Result<Vec<PlannedAtom>, AllocError>
-        requires variables { variables.now ≡ exported_of rule.now }
+        requires variables { at.now.variables.now ≡ exported_of rule.now }
         ensures planned { IfOk result (λ v. AllZip
-            (IsPlannedAtom self.new.symbols number variables.now places) v.items rule.now.conclusion) }
+            (IsPlannedAtom self.new.symbols at.now.rule at.now.variables.now at.now.places) v.items rule.now.conclusion) }
         ensures grows { Extends self.old.symbols self.new.symbols }
         ensures same { built self.new ≡ built self.old }
     {
-        planned_atoms(
-            alloc,
-            rule.conclusion.items(),
-            variables,
-            number,
-            places,
-            &mut self.symbols,
-        )
+        planned_atoms(alloc, rule.conclusion.items(), at, &mut self.symbols)
     }
 
     /// How many rows a table has.

@@ -13,7 +13,7 @@ ghost use Rattle.dx_tgd.specs.Texts.{FitRule, tuples_in};
 ghost use Rattle.dx_tgd.specs.Planned.{CanStand, HasNumber, built, planned_number, planned_fact};
 
 use crate::builder::Builder;
-use crate::planned::{PlannedAtom, PlannedCell};
+use crate::planned::{NumberedPlaces, PlannedAtom, PlannedCell};
 use crate::variables::exported;
 use dx_instance::{Instance, Rows, Symbols};
 use dx_model::Rule;
@@ -86,7 +86,12 @@ fn add_rule(
         (at_places number rule.now 0 (map (texts_of target.old.symbols) rows.now.rows))) }
 {
     let variables = exported(alloc, rule)?;
-    let plan = target.plan(alloc, rule, number, &variables, rows.count())?;
+    let at = NumberedPlaces {
+        rule: number,
+        variables: &variables,
+        places: rows.count(),
+    };
+    let plan = target.plan(alloc, rule, &at)?;
     let mut buffer = Vec::new(alloc);
     for place in 0..rows.count() {
         add_place(&plan, rows.row(place), place, &mut buffer, target)?;

@@ -43,7 +43,7 @@ pub(crate) fn rule_rows<F: Fn(u32, &Items<Text>) -> Result<Text, AllocError>, M:
         (IsFoundRule M.apply (facts (shown_tables source.now.symbols source.now.tables)) symbols.new rule.now)) }
 {
     // The call tells that no value has two numbers.
-    let _few = symbols.len();
+    prove!(symbols.len() <= u32::MAX as u64);
     let columns = exported(alloc, rule)?;
     let premise = rule.premise.items();
     let derived = rule.derived.items();

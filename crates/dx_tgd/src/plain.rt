@@ -85,7 +85,7 @@ fn found_rules<F: Fn(u32, &Items<Text>) -> Result<Text, AllocError>, M: Meaning>
         (facts (shown_tables source.now.symbols source.now.tables)) limit) }
 {
     // The call tells that no value has two numbers.
-    let _few = source.len();
+    prove!((source.len() as u64) < 1 << 32);
     let mut symbols = source.copy_symbols(alloc)?;
     let mut tables = Vec::new(alloc);
     let mut left = limit;

@@ -14,3 +14,11 @@ pub(crate) struct PlannedAtom {
     pub(crate) table: u32,
     pub(crate) cells: Vec<PlannedCell>,
 }
+
+/// The places of a rule: the rule's number, the variables of its tuples, and how many places there are.
+#[derive(Clone, Copy)]
+pub(crate) struct NumberedPlaces<'a> {
+    pub(crate) rule: u32,
+    pub(crate) variables: &'a [u32],
+    pub(crate) places: u32,
+}

@@ -9,7 +9,7 @@ ghost use Rattle.dx_model.specs.declared.rules.Cell.TheVariants.{Var};
 ghost use Rattle.dx_instance.specs.Numbers.{Extends, value_of};
 ghost use Rattle.dx_tgd.specs.Planned.{NumbersOfNulls, IsVariableColumn, IsCellPlan, IsPlannedAtom};
 
-use crate::planned::{PlannedAtom, PlannedCell};
+use crate::planned::{NumberedPlaces, PlannedAtom, PlannedCell};
 use dx_instance::{NullId, Symbols, Value};
 use dx_model::{Atom, Cell};
 use std::alloc::{AllocError, Global};
@@ -85,18 +85,18 @@ fn column_of(variables: &[u32], x: u32) -> usize
 fn planned_cell(
     alloc: Global,
     cell: &Cell,
-    variables: &[u32],
-    rule: u32,
-    places: u32,
+    at: &NumberedPlaces<'_>,
     symbols: &mut Symbols,
 ) -> Result<PlannedCell, AllocError>
-    requires listed { (x : ℕ) → cell.now ≡ Var x → x ∈ variables.now }
-    ensures planned { IfOk result (λ p. IsCellPlan symbols.new rule variables.now places p cell.now) }
+    requires listed { (x : ℕ) → cell.now ≡ Var x → x ∈ at.now.variables.now }
+    ensures planned { IfOk result (λ p. IsCellPlan symbols.new at.now.rule at.now.variables.now at.now.places p cell.now) }
     ensures grows { Extends symbols.old symbols.new }
 {
     match cell {
-        Cell::Var(x) => Ok(PlannedCell::Column(column_of(variables, *x))),
-        Cell::Ex(v) => Ok(PlannedCell::Nulls(null_numbers(alloc, symbols, rule, *v, places)?)),
+        Cell::Var(x) => Ok(PlannedCell::Column(column_of(at.variables, *x))),
+        Cell::Ex(v) => Ok(PlannedCell::Nulls(null_numbers(
+            alloc, symbols, at.rule, *v, at.places,
+        )?)),
         Cell::Lit(text) => {
             let number = number_for(symbols, Value::Const(text.copy()?))?;
             Ok(PlannedCell::Fixed(number))
@@ -108,18 +108,16 @@ fn planned_cell(
 fn planned_cells(
     alloc: Global,
     cells: &[Cell],
-    variables: &[u32],
-    rule: u32,
-    places: u32,
+    at: &NumberedPlaces<'_>,
     symbols: &mut Symbols,
 ) -> Result<Vec<PlannedCell>, AllocError>
-    requires listed { (x : ℕ) → Var x ∈ cells.now → x ∈ variables.now }
-    ensures planned { IfOk result (λ v. AllZip (IsCellPlan symbols.new rule variables.now places) v.items cells.now) }
+    requires listed { (x : ℕ) → Var x ∈ cells.now → x ∈ at.now.variables.now }
+    ensures planned { IfOk result (λ v. AllZip (IsCellPlan symbols.new at.now.rule at.now.variables.now at.now.places) v.items cells.now) }
     ensures grows { Extends symbols.old symbols.new }
 {
     let mut planned = Vec::new(alloc);
     for cell in cells {
-        planned.push(planned_cell(alloc, cell, variables, rule, places, symbols)?)?;
+        planned.push(planned_cell(alloc, cell, at, symbols)?)?;
     }
     Ok(planned)
 }
@@ -128,18 +126,16 @@ fn planned_cells(
 pub(crate) fn planned_atoms(
     alloc: Global,
     atoms: &[Atom],
-    variables: &[u32],
-    rule: u32,
-    places: u32,
+    at: &NumberedPlaces<'_>,
     symbols: &mut Symbols,
 ) -> Result<Vec<PlannedAtom>, AllocError>
-    requires listed { Each atoms.now (λ a. (x : ℕ) → Var x ∈ a.cells → x ∈ variables.now) }
-    ensures planned { IfOk result (λ v. AllZip (IsPlannedAtom symbols.new rule variables.now places) v.items atoms.now) }
+    requires listed { Each atoms.now (λ a. (x : ℕ) → Var x ∈ a.cells → x ∈ at.now.variables.now) }
+    ensures planned { IfOk result (λ v. AllZip (IsPlannedAtom symbols.new at.now.rule at.now.variables.now at.now.places) v.items atoms.now) }
     ensures grows { Extends symbols.old symbols.new }
 {
     let mut planned = Vec::new(alloc);
     for atom in atoms {
-        let cells = planned_cells(alloc, atom.cells.items(), variables, rule, places, symbols)?;
+        let cells = planned_cells(alloc, atom.cells.items(), at, symbols)?;
         planned.push(PlannedAtom {
             table: atom.table,
             cells,

@@ -42,7 +42,7 @@ returns-clause-within g c =
 
 pub loop-rule-init : goal.loop-rule-init
 loop-rule-init g c =
-    found_start g.M.Meaning.apply (facts (shown_tables c.args.source.now.symbols c.args.source.now.tables)) c.args.source.now.symbols c.in_ok-symbols.symbols c.new-tables.result.items c.args.limit c.in_ok-symbols.ensures c.new-tables.ensures.items c.len-few.ensures.fit.apart
+    found_start g.M.Meaning.apply (facts (shown_tables c.args.source.now.symbols c.args.source.now.tables)) c.args.source.now.symbols c.in_ok-symbols.symbols c.new-tables.result.items c.args.limit c.in_ok-symbols.ensures c.new-tables.ensures.items c.len.ensures.fit.apart
 
 pub nonzero_div-left : goal.nonzero_div-left
 nonzero_div-left g c =

@@ -17,8 +17,8 @@ planned_cells-requires c = record {
 
 pub loop-atom-preserved : goal.loop-atom-preserved
 loop-atom-preserved c = record {
-  planned = rw c.in_ok-push.ensures.items (atoms_more c.loop-atom.symbols c.planned_cells.new.symbols c.args.rule c.args.variables.now c.args.places c.loop-atom.planned.items c.args.atoms.now c.loop-atom.atom-index _ c.atom-item.result
+  planned = rw c.in_ok-push.ensures.items (atoms_more c.loop-atom.symbols c.planned_cells.new.symbols c.args.at.now.rule c.args.at.now.variables.now c.args.at.now.places c.loop-atom.planned.items c.args.atoms.now c.loop-atom.atom-index _ c.atom-item.result
       c.loop-atom-test.true c.atom-item.is c.planned_cells.ensures.grows c.loop-atom.invariant.planned
-      (record { table = refl; cells = subst (λ (z : List Cell). AllZip (IsCellPlan c.planned_cells.new.symbols c.args.rule c.args.variables.now c.args.places) c.in_ok-cells.cells.items z) c.items.ensures c.in_ok-cells.ensures.planned }));
+      (record { table = refl; cells = subst (λ (z : List Cell). AllZip (IsCellPlan c.planned_cells.new.symbols c.args.at.now.rule c.args.at.now.variables.now c.args.at.now.places) c.in_ok-cells.cells.items z) c.items.ensures c.in_ok-cells.ensures.planned }));
   grows = extends_both c.args.symbols.now c.loop-atom.symbols c.planned_cells.new.symbols c.loop-atom.invariant.grows c.planned_cells.ensures.grows;
 }

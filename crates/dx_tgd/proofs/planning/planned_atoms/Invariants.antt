@@ -5,4 +5,4 @@ use Rattle.dx_tgd.specs.Planned.{IsPlannedAtom}
 use Rattle.dx_tgd.proofs.planning.planned_atoms.Given as goal
 
 abbrev pub invariant-loop-atom : goal.invariant-loop-atom
-invariant-loop-atom l = record { planned : AllZip (IsPlannedAtom l.symbols l.rule l.variables l.places) l.planned.items (take l.atom-index l.atoms); grows : Extends l.fn.symbols l.symbols }
+invariant-loop-atom l = record { planned : AllZip (IsPlannedAtom l.symbols l.at.rule l.at.variables.now l.at.places) l.planned.items (take l.atom-index l.atoms); grows : Extends l.fn.symbols l.symbols }

@@ -10,7 +10,7 @@ planned_cell-requires c = record {
 
 pub loop-cell-preserved : goal.loop-cell-preserved
 loop-cell-preserved c = record {
-  planned = rw c.in_ok-push.ensures.items (plans_more c.loop-cell.symbols c.planned_cell.new.symbols c.args.rule c.args.variables.now c.args.places c.loop-cell.planned.items c.args.cells.now c.loop-cell.cell-index c.in_ok-planned_cell.field-0 c.cell-item.result
+  planned = rw c.in_ok-push.ensures.items (plans_more c.loop-cell.symbols c.planned_cell.new.symbols c.args.at.now.rule c.args.at.now.variables.now c.args.at.now.places c.loop-cell.planned.items c.args.cells.now c.loop-cell.cell-index c.in_ok-planned_cell.field-0 c.cell-item.result
       c.loop-cell-test.true c.cell-item.is c.planned_cell.ensures.grows c.loop-cell.invariant.planned c.in_ok-planned_cell.ensures.planned);
   grows = extends_both c.args.symbols.now c.loop-cell.symbols c.planned_cell.new.symbols c.loop-cell.invariant.grows c.planned_cell.ensures.grows;
 }
