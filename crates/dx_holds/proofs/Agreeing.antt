@@ -1,8 +1,7 @@
 -- Rows that agree in columns.
-use Rattle.std.proofs.Common.{◌≡◌, ◌∙◌, ℕ, zero, suc, ◌+◌, ◌<◌, ◌≤◌, List, [], ◌∷◌, ◌++◌, inl, inr, refl, sym, ap, arith, length, get_or, take, Bool, true, false}
+use Rattle.std.proofs.Common.{◌≡◌, ◌∙◌, ℕ, zero, suc, ◌<◌, List, [], ◌∷◌, inl, inr, refl, sym, ap, arith, length, get_or, Bool, true, false}
 use Rattle.std.specs.Prelude.{map, Option, None, Some, is_some, ◌==◌, IsTrue, ◌↔◌}
 use Rattle.std.proofs.lemmas.Bool.{cases_lt, false≢true}
-use Rattle.std.proofs.lemmas.List.{take_more, take_all, map-append}
 use Rattle.dx_model.specs.declared.values.Value.{Value}
 use Rattle.dx_model.specs.declared.tables.Link.{Link}
 use Rattle.dx_model.specs.Tables.{values_in}
@@ -12,20 +11,11 @@ use Rattle.dx_holds.specs.Columns.{RowLeads}
 
 -- ---- column by column
 
-pub agree_more : (f g : ℕ → Value) (xs ys : List ℕ) (i : ℕ) → i < length xs → length ys ≡ length xs → map f (take i xs) ≡ map g (take i ys) → f (get_or xs i 0) ≡ g (get_or ys i 0)
-    → map f (take (i + 1) xs) ≡ map g (take (i + 1) ys)
-agree_more f g xs ys i h l e q =
-    let both : map f (take i xs) ++ f (get_or xs i 0) ∷ [] ≡ map g (take i ys) ++ g (get_or ys i 0) ∷ [] = cc in
-    ap (map f) (take_more xs i 0 h) ∙ (map-append f (take i xs) (get_or xs i 0 ∷ []) ∙ (both ∙ sym (ap (map g) (take_more ys i 0 (omega (arith, h, l))) ∙ map-append g (take i ys) (get_or ys i 0 ∷ []))))
-
 pub agree_at : (f g : ℕ → Value) (xs ys : List ℕ) (i : ℕ) → i < length xs → length ys ≡ length xs → map f xs ≡ map g ys → f (get_or xs i 0) ≡ g (get_or ys i 0)
 agree_at f g [] ys i h l e = absurd (omega arith)
 agree_at f g (x ∷ xs) [] i h l e = absurd (omega arith)
 agree_at f g (x ∷ xs) (y ∷ ys) zero h l e = cc
 agree_at f g (x ∷ xs) (y ∷ ys) (suc i) h l e = agree_at f g xs ys i (omega arith) (omega arith) (cc)
-
-pub agree_all : (f g : ℕ → Value) (xs ys : List ℕ) (i : ℕ) → length xs ≤ i → length ys ≡ length xs → map f (take i xs) ≡ map g (take i ys) → map f xs ≡ map g ys
-agree_all f g xs ys i h l e = sym (ap (map f) (take_all i xs h)) ∙ (e ∙ ap (map g) (take_all i ys (omega (arith, h, l))))
 
 -- ---- the next row that agrees
 

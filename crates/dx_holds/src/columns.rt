@@ -30,14 +30,12 @@ impl<'a> Seen<'a> {
         ensures { IsTrue result
             ↔ RowsAgree self.now.instance.now self.now.table self.now.place self.now.columns.now table columns.now place }
     {
-        let seen = self.columns;
-        for i in 0..columns.len() {
-            let value = self.instance.cell(self.table, self.place, seen[i]);
-            if !self.instance.cell(table, place, columns[i]).is(value) {
-                return false;
-            }
-        }
-        true
+        let instance = self.instance;
+        columns.iter().zip(self.columns).all(|(column, own)| {
+            instance
+                .cell(table, place, *column)
+                .is(instance.cell(self.table, self.place, *own))
+        })
     }
 
     /// The least place from `from` on whose row has in these columns what this row has in its own. It goes by the first of the

@@ -88,21 +88,22 @@ fn meet_variable(target: &Instance, found: &mut Vec<Found>, cell: Found) -> bool
     true
 }
 
-/// Gives the atom's cell the value in a column of a row, if it can have it.
-fn meet_cell(
-    question: &Question,
-    found: &mut Vec<Found>,
-    cell: &Cell,
+/// A cell of an instance, by its table, its place and its column.
+#[derive(Clone, Copy)]
+struct CellPlace {
     table: u32,
     place: u32,
     column: u32,
-) -> bool
+}
+
+/// Gives the atom's cell the value of a cell of the target, if it can have it.
+fn meet_cell(question: &Question, found: &mut Vec<Found>, cell: &Cell, at: CellPlace) -> bool
     requires known { cell.now ∈ cells_of question.now.atoms.now }
-    requires stands { HasCellAt question.now.target.now table place column }
+    requires stands { HasCellAt question.now.target.now at.table at.place at.column }
     requires ready { HasRoomForCells question.now.target.now (cell.now ∷ []) found.old }
     ensures capacity { vec_capacity found.new ≡ vec_capacity found.old }
     ensures cases { Settles result question.now.target.now found.old found.new
-        (HasValue question.now cell.now (value_at question.now.target.now table place column)) }
+        (HasValue question.now cell.now (value_at question.now.target.now at.table at.place at.column)) }
 {
     let target = question.target;
     match cell {
@@ -111,12 +112,12 @@ fn meet_cell(
             found,
             Found {
                 variable: *variable,
-                table,
-                place,
-                column,
+                table: at.table,
+                place: at.place,
+                column: at.column,
             },
         ),
-        _ => shows(question, cell, target.cell(table, place, column)),
+        _ => shows(question, cell, target.cell(at.table, at.place, at.column)),
     }
 }
 
@@ -132,7 +133,12 @@ fn meet_row(question: &Question, found: &mut Vec<Found>, atom: &Atom, place: u32
     let cells = atom.cells.items();
     for column in 0..question.target.width(atom.table) {
         let cell = &cells[column as usize];
-        if !meet_cell(question, found, cell, atom.table, place, column) {
+        let at = CellPlace {
+            table: atom.table,
+            place,
+            column,
+        };
+        if !meet_cell(question, found, cell, at) {
             return false;
         }
     }

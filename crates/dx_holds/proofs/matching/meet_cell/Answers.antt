@@ -22,13 +22,13 @@ pub returns-in-Ex-clause-cases : goal.returns-in-Ex-clause-cases
 returns-in-Ex-clause-cases c =
     subst
     (λ (k : Cell). MatchBool c.meet_variable.result
-    (AddsExactly c.args.question.now.target.now (vec_capacity c.args.found.now) c.args.found.now.items (λ values. cell_value (texts c.args.question.now.atoms.now c.args.question.now.tuple.now) values k ≡ value_at c.args.question.now.target.now c.args.table c.args.place c.args.column) c.meet_variable.new.found.items)
-    (Misses c.args.question.now.target.now c.args.found.now.items (λ values. cell_value (texts c.args.question.now.atoms.now c.args.question.now.tuple.now) values k ≡ value_at c.args.question.now.target.now c.args.table c.args.place c.args.column) c.meet_variable.new.found.items))
+    (AddsExactly c.args.question.now.target.now (vec_capacity c.args.found.now) c.args.found.now.items (λ values. cell_value (texts c.args.question.now.atoms.now c.args.question.now.tuple.now) values k ≡ value_at c.args.question.now.target.now c.args.at.table c.args.at.place c.args.at.column) c.meet_variable.new.found.items)
+    (Misses c.args.question.now.target.now c.args.found.now.items (λ values. cell_value (texts c.args.question.now.atoms.now c.args.question.now.tuple.now) values k ≡ value_at c.args.question.now.target.now c.args.at.table c.args.at.place c.args.at.column) c.meet_variable.new.found.items))
     (sym c.in-Ex.is) c.meet_variable.ensures.cases
 
 pub returns-in_default : goal.returns-in_default
 returns-in_default c = record {
   capacity = refl;
   cases = answer_known c.args.question.now.target.now (vec_capacity c.args.found.now) c.args.found.now.items (λ (values : ℕ → Value). cell_value (texts c.args.question.now.atoms.now c.args.question.now.tuple.now) values c.args.cell.now)
-      (value_at c.args.question.now.target.now c.args.table c.args.place c.args.column) c.shows.result c.requires.ready.good (λ values. rw c.cell.ensures at (c.shows.ensures values c.in_default.not-Ex));
+      (value_at c.args.question.now.target.now c.args.at.table c.args.at.place c.args.at.column) c.shows.result c.requires.ready.good (λ values. rw c.cell.ensures at (c.shows.ensures values c.in_default.not-Ex));
 }

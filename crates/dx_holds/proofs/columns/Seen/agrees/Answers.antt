@@ -1,24 +1,29 @@
-use Rattle.std.proofs.Common.{arith}
-use Rattle.dx_base.proofs.Loops.{not_so}
-use Rattle.dx_base.proofs.Members.{in_at}
+use Rattle.std.proofs.Common.{◌≡◌, rules, sym, tests}
+use Rattle.std.proofs.lemmas.Iterator.{cases_from_all, YieldsList-from_slice, YieldsList-from_zip}
+use Rattle.std.proofs.lemmas.Iterator.Adapters.{serves_from_places}
 use Rattle.dx_model.specs.Tables.{cell}
 use Rattle.dx_instance.specs.Places.{row_at, value_at}
-use Rattle.dx_holds.proofs.Agreeing.{agree_at, row_has_table}
+use Rattle.dx_instance.proofs.AskedFacts.{first_in_zip}
+use Rattle.dx_holds.proofs.Agreeing.{row_has_table}
+use Rattle.dx_holds.proofs.Asking.{maps_meet, second_in_zip}
 use Rattle.dx_holds.proofs.columns.Seen.agrees.Goals as goal
 
-pub cell-value-requires-clause-column : goal.cell-value-requires-clause-column
-cell-value-requires-clause-column c = c.args.self.now.within _ (in_at c.args.self.now.columns.now c.loop-i.i 0 (omega (arith, c.requires.lengths, c.loop-i-test.true)))
+pub all-requires-clause-callable : goal.all-requires-clause-callable
+all-requires-clause-callable c =
+    let columns = c.args.columns.now in
+    let own = c.args.self.now.columns.now in
+    serves_from_places (YieldsList-from_zip (YieldsList-from_slice columns (cc)) (YieldsList-from_slice own (cc))) (λ x q m. search rules) (λ x k h e.
+    let b = c.requires.columns x.0.now (first_in_zip columns own k (x.0.now, x.1.now) h e) in
+    let d = c.args.self.now.within x.1.now (second_in_zip columns own k (x.0.now, x.1.now) h e) in
+    let its = row_has_table c.args.self.now.instance.now c.args.table c.args.place c.requires.place in
+    let mine = row_has_table c.args.self.now.instance.now c.args.self.now.table c.args.self.now.place c.args.self.now.stands in
+    search (rules, b, d, its, mine, c.requires.place, c.args.self.now.stands))
 
-pub cell-requires-clause-column : goal.cell-requires-clause-column
-cell-requires-clause-column c = c.requires.columns _ (in_at c.args.columns.now c.loop-i.i 0 c.loop-i-test.true)
-
-pub cell-value-requires-clause-table : goal.cell-value-requires-clause-table
-cell-value-requires-clause-table c = row_has_table c.args.self.now.instance.now c.args.self.now.table c.args.self.now.place c.args.self.now.stands
-
-pub cell-requires-clause-table : goal.cell-requires-clause-table
-cell-requires-clause-table c = row_has_table c.args.self.now.instance.now c.args.table c.args.place c.requires.place
-
-pub returns-then-not-is : goal.returns-then-not-is
-returns-then-not-is c =
-    not_so c.if-not-is.true (rw (c.cell.ensures, c.cell-value.ensures) at c.is.ensures)
-    (λ q. agree_at (value_at c.args.self.now.instance.now c.args.table c.args.place) (cell (row_at c.args.self.now.instance.now c.args.self.now.table c.args.self.now.place)) c.args.columns.now c.args.self.now.columns.now c.loop-i.i c.loop-i-test.true c.requires.lengths q)
+pub returns : goal.returns
+returns c =
+    let columns = c.args.columns.now in
+    let own = c.args.self.now.columns.now in
+    let its = value_at c.args.self.now.instance.now c.args.table c.args.place in
+    let mine = cell (row_at c.args.self.now.instance.now c.args.self.now.table c.args.self.now.place) in
+    let by_call = cases_from_all c.all.new.self _ _ (λ p. its p.0 ≡ mine p.1) (λ p. ¬ (its p.0 ≡ mine p.1)) c.all.ensures.ran (YieldsList-from_zip (YieldsList-from_slice columns (cc)) (YieldsList-from_slice own (cc))) (λ x q k. search (rules, tests)) (λ x q k. search (rules, tests)) in
+    maps_meet its mine _ columns own (sym c.requires.lengths) by_call
