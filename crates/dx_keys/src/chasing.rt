@@ -91,9 +91,10 @@ fn chase_numbers(alloc: Global, instance: Instance, schema: &Schema) -> Result<C
     ensures ok { IfOk result (IsChased (model_tables schema.now) instance) }
     ensures fault { IfErr result (IsChaseFault (model_tables schema.now) instance) }
 {
-    let _instance_tables = instance.tables();
+    // The calls tell what holds of the tables of each instance, and of those of each schema.
+    prove!((instance.tables() as u64) < 1 << 32);
+    prove!((schema.tables() as u64) < 1 << 32);
     let numbering = number(alloc, instance)?;
-    let _schema_tables = schema.tables();
     let roots = chase_by(alloc, schema, &numbering)?;
     Ok(read_chased(alloc, numbering, roots.items())?)
 }
@@ -112,6 +113,7 @@ pub fn chase(alloc: Global, instance: Instance, schema: &Schema) -> Result<Chase
     if !has_no_determinations(schema) {
         return chase_numbers(alloc, instance, schema);
     }
-    let _tables = instance.tables();
+    // The call tells what holds of the tables of each instance.
+    prove!((instance.tables() as u64) < 1 << 32);
     Ok(unchanged(alloc, instance)?)
 }

@@ -18,15 +18,15 @@ fn demand_row(
     alloc: Global,
     symbols: &Symbols,
     tables: &[NumberTable<'_>],
-    roots: &[u32],
-    demands: &Demands<'_, '_>,
+    found: &RowsChased<'_, '_>,
     i: u64,
 ) -> Result<Row, AllocError>
-    requires { CanReadDemand symbols.now tables.now roots.now demands.now i }
-    ensures { IfOk result (λ row. row ≡ row_read symbols.now tables.now roots.now (demand_at demands.now i)) }
+    requires { CanReadDemand symbols.now tables.now found.now.chased.roots found.now.demands i }
+    ensures { IfOk result (λ row. row ≡ row_read symbols.now tables.now found.now.chased.roots (demand_at found.now.demands i)) }
 {
-    let demand = demands.asked(i);
+    let demand = found.demands.asked(i);
     let table = &tables[demand.table as usize];
+    let roots = found.chased.roots.items();
     read_row(alloc, symbols, roots, table.row(demand.row))
 }
 
@@ -73,11 +73,10 @@ pub fn read_clash(
     ensures { IfOk result (IsClashByValues symbols.now tables.now found.now place) }
 {
     let demands = &found.demands;
-    let roots = found.chased.roots.items();
     let demand = demands.asked(place.one);
     let steps = read_steps(alloc, symbols, found.chased.steps.items())?;
-    let one = demand_row(alloc, symbols, tables, roots, demands, place.one)?;
-    let other = demand_row(alloc, symbols, tables, roots, demands, place.other)?;
+    let one = demand_row(alloc, symbols, tables, found, place.one)?;
+    let other = demand_row(alloc, symbols, tables, found, place.other)?;
     let (left, right) = in_order(one, other);
     Ok(Clash {
         steps,

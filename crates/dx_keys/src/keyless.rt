@@ -23,12 +23,7 @@ fn is_free(schema: &Schema, table: u32) -> bool
 pub(crate) fn has_no_determinations(schema: &Schema) -> bool
     ensures { IsTrue result ↔ Each (tables_of schema.now) (λ t. determinations_of t ≡ []) }
 {
-    for table in 0..schema.tables() {
-        if !is_free(schema, table) {
-            return false;
-        }
-    }
-    true
+    (0..schema.tables()).all(|table| is_free(schema, table))
 }
 
 /// The chase of an instance in which keys hold.

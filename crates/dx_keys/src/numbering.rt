@@ -78,7 +78,8 @@ fn ranked(alloc: Global, numbers: &Numbers, ranks: &[u32]) -> Result<Vec<Rows>, 
 pub fn number(alloc: Global, instance: Instance) -> Result<Numbering, AllocError>
     ensures { IfOk result (IsNumbering instance) }
 {
-    let _tables = instance.tables();
+    // The call tells what holds of the tables of each instance.
+    prove!((instance.tables() as u64) < 1 << 32);
     let numbers = instance.numbers();
     let Ordered { symbols, ranks } = symbols_in_order(alloc, &numbers)?;
     let constants = count_constants(&symbols);

@@ -5,7 +5,7 @@ use Rattle.dx_keys.proofs.chasing.chase_numbers.Goals as goal
 
 pub chase_by-requires : goal.chase_by-requires
 chase_by-requires c =
-    let M : IsNumbered c.args.schema.now c.args.instance c.in_ok-numbering.numbering = record { widths_are = c.requires; wide = c.tables-instance_tables.ensures.rows; determined = c.tables-schema_tables.ensures.fits; numbering = c.in_ok-numbering.ensures } in
+    let M : IsNumbered c.args.schema.now c.args.instance c.in_ok-numbering.numbering = record { widths_are = c.requires; wide = c.tables.ensures.rows; determined = c.tables-2.ensures.fits; numbering = c.in_ok-numbering.ensures } in
     (c.args.instance, M)
 
 pub read_chased-requires-clause-ascend : goal.read_chased-requires-clause-ascend
@@ -13,6 +13,6 @@ read_chased-requires-clause-ascend c = values_ascend c.in_ok-numbering.numbering
 
 pub returns-clause-ok : goal.returns-clause-ok
 returns-clause-ok c =
-    let M : IsNumbered c.args.schema.now c.args.instance c.in_ok-numbering.numbering = record { widths_are = c.requires; wide = c.tables-instance_tables.ensures.rows; determined = c.tables-schema_tables.ensures.fits; numbering = c.in_ok-numbering.ensures } in
+    let M : IsNumbered c.args.schema.now c.args.instance c.in_ok-numbering.numbering = record { widths_are = c.requires; wide = c.tables.ensures.rows; determined = c.tables-2.ensures.fits; numbering = c.in_ok-numbering.ensures } in
     c.in_ok-roots.ensures.ok c.args.instance M c.in_ok-read_chased.field-0.map c.in_ok-read_chased.field-0.instance
     (c.in_ok-read_chased.ensures.map ∙ ap (null_map_of c.in_ok-numbering.numbering.symbols) c.items.ensures) (rw c.items.ensures at c.in_ok-read_chased.ensures.image)
