@@ -54,7 +54,8 @@ fn alone_in(
     ensures { IfOk result (λ o. MatchOption o (AllLead (model_tables schema.now) instance.now table)
         (IsLoneIn (model_tables schema.now) instance.now table)) }
 {
-    let _fits = schema.tables();
+    // The call tells what holds of the tables of each schema.
+    prove!((schema.tables() as u64) < 1 << 32);
     let links = schema.links_of(table);
     for i in 0..links.len() {
         if let Some(place) = first_alone(alloc, instance, table, &links[i])? {

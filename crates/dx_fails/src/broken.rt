@@ -86,7 +86,8 @@ fn broken_in(
     ensures { IfOk result (λ o. MatchOption o (AllIn (model_tables schema.now) instance.now table)
         (IsBrokenIn (model_tables schema.now) instance.now table)) }
 {
-    let _fits = schema.tables();
+    // The call tells what holds of the tables of each schema.
+    prove!((schema.tables() as u64) < 1 << 32);
     let all = all_columns(alloc, instance.width(table))?;
     let found = determinations(alloc, schema, table, &all)?;
     for key in 0..found.len() {

@@ -59,7 +59,8 @@ pub(crate) fn shadows(
     requires wide { IsWidth (length columns.now) }
     ensures { IfOk result (AreShadows instance.now table columns.now) }
 {
-    let _few = instance.tables();
+    // The call tells what holds of the tables of each instance.
+    prove!(table < instance.tables());
     let mut all = no_shadows(alloc, columns)?;
     for place in 0..instance.count(table) {
         let row = shadow_of(alloc, instance, table, columns, place)?;

@@ -7,18 +7,18 @@ use Rattle.dx_fails.proofs.alone.alone_in.Goals as goal
 
 pub first_alone-requires-clause-fits : goal.first_alone-requires-clause-fits
 first_alone-requires-clause-fits c =
-    link_fits c.args.schema.now c.args.instance.now c.args.table c.index-links-i.result c.requires.widths c.tables-fits.ensures.facts c.requires.table
+    link_fits c.args.schema.now c.args.instance.now c.args.table c.index-links-i.result c.requires.widths c.tables.ensures.facts c.requires.table
     (rw (← c.links_of-links.ensures, c.index-links-i.is) (in_at c.links_of-links.result.now c.loop-i.i c.index-links-i.result c.loop-i-test.true))
 
 pub first_alone-requires-clause-wide : goal.first_alone-requires-clause-wide
 first_alone-requires-clause-wide c =
-    let wide = link_few c.args.schema.now c.args.instance.now c.args.table c.index-links-i.result c.requires.widths c.tables-fits.ensures.facts c.requires.table
+    let wide = link_few c.args.schema.now c.args.instance.now c.args.table c.index-links-i.result c.requires.widths c.tables.ensures.facts c.requires.table
     (rw (← c.links_of-links.ensures, c.index-links-i.is) (in_at c.links_of-links.result.now c.loop-i.i c.index-links-i.result c.loop-i-test.true)) in
     record { some = wide.0; few = omega (arith, wide.1) }
 
 pub overflow_cast-result : goal.overflow_cast-result
 overflow_cast-result c =
-    let few = (has_numbers c.args.schema.now c.args.instance.now c.args.table c.requires.widths c.requires.table c.tables-fits.ensures.numbers).links in
+    let few = (has_numbers c.args.schema.now c.args.instance.now c.args.table c.requires.widths c.requires.table c.tables.ensures.numbers).links in
     let many = ap length c.links_of-links.ensures in
     omega (arith, few, many, c.loop-i-test.true)
 

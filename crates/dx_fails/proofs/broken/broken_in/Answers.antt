@@ -13,16 +13,16 @@ determinations-requires-clause-all c =
 pub apart_in-requires-clause-columns : goal.apart_in-requires-clause-columns
 apart_in-requires-clause-columns c =
     let fits = within c.args.schema.now c.args.instance.now c.requires.widths c.args.table c.requires.table c.in_ok-found.found.items c.in_ok-found.ensures c.loop-key.key c.index.result.now
-    (omega (arith, c.len-key-end.ensures, c.loop-key-test.true)) c.index.ensures c.tables-fits.ensures.fits in
+    (omega (arith, c.len-key-end.ensures, c.loop-key-test.true)) c.index.ensures c.tables.ensures.fits in
     let few = left_few c.args.schema.now c.args.instance.now c.requires.widths c.args.table c.requires.table c.in_ok-found.found.items c.in_ok-found.ensures c.loop-key.key c.index.result.now
-    (omega (arith, c.len-key-end.ensures, c.loop-key-test.true)) c.index.ensures c.tables-fits.ensures.facts in
+    (omega (arith, c.len-key-end.ensures, c.loop-key-test.true)) c.index.ensures c.tables.ensures.facts in
     record { left = fits.0; few = omega (arith, few); right = fits.1 }
 
 pub overflow_cast-result : goal.overflow_cast-result
 overflow_cast-result c =
     let few =
     few_found c.args.schema.now c.args.instance.now c.requires.widths c.args.table c.requires.table c.in_ok-found.found.items c.in_ok-found.ensures c.loop-key.key
-    (omega (arith, c.len-key-end.ensures, c.loop-key-test.true)) c.tables-fits.ensures.numbers in
+    (omega (arith, c.len-key-end.ensures, c.loop-key-test.true)) c.tables.ensures.numbers in
     omega (arith, few)
 
 pub returns-in-Some : goal.returns-in-Some
