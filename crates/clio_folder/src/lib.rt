@@ -7,6 +7,7 @@
 #![tactic(auto)]
 
 mod inputs;
+mod left_overs;
 mod logged;
 mod outputs;
 mod parts;

@@ -1,5 +1,6 @@
 // A writer with a log of what it took, and the loop that hands over all bytes.
-ghost use Rattle.std.specs.Prelude.{◌≡◌, ◌<◌, ℕ, [], ◌++◌, length, take, Some, OnOk, OnErr};
+ghost use Rattle.std.specs.Prelude.{◌≡◌, ◌≢◌, ◌<◌, ℕ, [], ◌++◌, length, take, Some, OnOk, OnErr, IfErr};
+ghost use Rattle.std.specs.IoError.{error_kind};
 ghost use Rattle.std.specs.Io.{WritesAtMost};
 ghost use Rattle.std.specs.Io.KnownBytes.{WriteAppends};
 
@@ -50,12 +51,13 @@ impl<W: Write> Write for Logged<W> {
     }
 }
 
-/// Hands over all bytes, in as many writes as it takes. After an error not all of them were taken: a front, which may
-/// be empty.
+/// Hands over all bytes, in as many writes as it takes. A write that a signal interrupts is tried again. After an error
+/// not all of them were taken: a front, which may be empty.
 pub fn write_whole<W: Write>(to: &mut Logged<W>, bytes: &[u8]) -> io::Result<()>
     ensures whole { OnOk result (to.new.log.written.said ≡ to.old.log.written.said ++ bytes.now) }
     ensures front { OnErr result ((k : ℕ) × (k < length bytes.now)
         × (to.new.log.written.said ≡ to.old.log.written.said ++ take k bytes.now)) }
+    ensures again { IfErr result (λ e. error_kind e ≢ ErrorKind.Interrupted) }
 {
     let mut done = 0;
     'writes: for _ in 0..u64::MAX {

@@ -36,9 +36,9 @@ fn part_path<R: AllocGlobal + Clock>(rt: &R, process: u32) -> io::Result<String>
     Ok(path)
 }
 
-// Hands all bytes to a new file, and from there to the disk: an error that the system would report at the close shows
-// here.
-fn fill<F: Write + OpenFile + Drop>(file: F, bytes: &[u8]) -> io::Result<WriteLog>
+/// Hands all bytes to a new file, and from there to the disk: an error that the system would report at the close shows
+/// here.
+pub fn fill<F: Write + OpenFile + Drop>(file: F, bytes: &[u8]) -> io::Result<WriteLog>
     ensures { IfOk result (λ log. log.written.said ≡ bytes.now) }
 {
     let mut file = Logged::new(file);
@@ -97,36 +97,4 @@ pub fn publish<R: Files + AllocGlobal>(
             Err(error)
         }
     }
-}
-
-// Whether a file of this name is the part of a run that has ended: its process is this one, which has begun none, or is
-// gone. If the processes can't be seen, each is taken for gone; a run whose part is taken away fails at the move,
-// and nothing is mixed.
-fn is_left_over<R: Files + AllocGlobal>(rt: &R, process: u32, name: &str) -> io::Result<bool> {
-    let Some(rest) = name.strip_prefix(".clio-") else {
-        return Ok(false);
-    };
-    let Some((number, time)) = rest.split_once('-') else {
-        return Ok(false);
-    };
-    let Ok(number) = number.parse::<u32>() else {
-        return Ok(false);
-    };
-    if !time.ends_with(".part") {
-        return Ok(false);
-    }
-    let path = format!(in rt.alloc(); "/proc/{number}")?;
-    Ok(number == process || !fs::exists(rt, path.as_str())?)
-}
-
-/// Removes the parts that killed runs left in `out`. It is called before this run has written one.
-pub fn remove_left_overs<R: Files + AllocGlobal>(rt: &R, process: u32) -> io::Result<()> {
-    for entry in fs::read_dir(&rt, "out")? {
-        let entry = entry?;
-        if is_left_over(rt, process, entry.file_name())? {
-            // A part that can't be removed is in nobody's way.
-            fs::remove_file(rt, entry.path()).ok();
-        }
-    }
-    Ok(())
 }
