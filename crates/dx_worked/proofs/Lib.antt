@@ -6,3 +6,6 @@ mod Verdicts
 mod Steps
 mod Queries
 mod Judging
+mod Named
+mod Missed
+mod Said
