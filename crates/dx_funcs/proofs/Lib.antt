@@ -1,4 +1,5 @@
 pub mod Apart
+pub mod Asked
 pub mod Examples
 pub mod Offered
 pub mod Judged

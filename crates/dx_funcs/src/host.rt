@@ -42,12 +42,10 @@ impl<F: Fn(u32, &Items<Text>) -> Result<Text, AllocError>, M: Meaning> Host<F, M
             (λ c. first_named (offered self.now) name.now ≡ Some c.now) }
         ensures listed { IfSome result (λ c. (c.now ∈ offered self.now) × (c.now.name ≡ name.now)) }
     {
-        for conversion in self.list.items() {
-            if conversion.name.is(name) {
-                return Some(conversion);
-            }
-        }
-        None
+        self.list
+            .items()
+            .iter()
+            .find(|conversion| conversion.name.is(name))
     }
 
     /// The conversion of this code.
@@ -101,6 +99,6 @@ fn are_utf8(texts: &[Text])
     ensures { Each texts.now IsUtf8 }
 {
     for text in texts {
-        let _bytes = text.bytes();
+        prove!(text.bytes().len() <= usize::MAX);
     }
 }

@@ -40,12 +40,7 @@ impl<P: Fn(u32, &Text) -> Result<bool, AllocError>, M: Meaning> Tests<P, M> {
         ensures some { IfSome result (λ t. (t.now ∈ tested self.now) × (t.now.name ≡ name.now)) }
         ensures none { IsSome result ↔ (name.now ∈ map (λ t. t.name) (tested self.now)) }
     {
-        for test in self.list.items() {
-            if test.name.is(name) {
-                return Some(test);
-            }
-        }
-        None
+        self.list.items().iter().find(|test| test.name.is(name))
     }
 
     /// Whether a text passes the row test of a code.
@@ -58,7 +53,7 @@ impl<P: Fn(u32, &Text) -> Result<bool, AllocError>, M: Meaning> Tests<P, M> {
         requires listed { code ∈ map (λ t. t.code) (tested self.now) }
         ensures { IfOk result (λ b. b ≡ M.passes code text.now) }
     {
-        let _bytes = text.bytes();
+        prove!(text.bytes().len() <= usize::MAX);
         (self.function)(code, text)
     }
 }

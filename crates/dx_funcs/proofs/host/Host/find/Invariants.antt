@@ -1,7 +1,0 @@
-use Rattle.std.proofs.Common.{◌≡◌, take}
-use Rattle.dx_base.specs.Members.{Each}
-use Rattle.dx_funcs.proofs.host.Host.find.Given as goal
-
--- none of the conversions so far has the name
-abbrev pub invariant-loop-conversion : goal.invariant-loop-conversion
-invariant-loop-conversion g l = Each (take l.conversion-index l.conversion-items) (λ c. ¬ (c.name ≡ l.name))
