@@ -14,68 +14,66 @@ use dx_logical::Occurrence;
 use dx_ways::{is_among, ways};
 use std::alloc::Global;
 
-// The ways of each of these parts of the source's unfolding with the whole of the target's.
-pub(crate) fn add_source_ways(
-    alloc: Global,
-    lines: &[Line],
-    parts: &[Items<Occurrence>],
-    from: &[Occurrence],
-    to: &[Occurrence],
-    found: &mut Items<Items<Pick>>,
-) -> Result<(), CandFault>
-    requires parts { Each parts.now (λ part. part ⊆ from.now) }
-    requires ready { HaveFewWays lines.now from.now to.now }
-    ensures ways { OnOk result (found.new ≡ found.old ++ map (λ part. ways_of lines.now part to.now) parts.now) }
-    ensures fault { IfErr result (λ e. e ≡ Memory) }
-{
-    for part in parts {
-        let some = ways(alloc, lines, part.items(), to)?;
-        found.push(Items::from_vec(some))?;
-    }
-    Ok(())
+/// Lines, and the occurrences of source tables and of target tables that they are read between.
+#[derive(Clone, Copy)]
+pub(crate) struct LinesBetween<'a> {
+    pub lines: &'a [Line],
+    pub from: &'a [Occurrence],
+    pub to: &'a [Occurrence],
 }
 
-// The ways of the whole of the source's unfolding with each of these parts of the target's.
-pub(crate) fn add_target_ways(
-    alloc: Global,
-    lines: &[Line],
-    from: &[Occurrence],
-    to: &[Occurrence],
-    parts: &[Items<Occurrence>],
-    found: &mut Items<Items<Pick>>,
-) -> Result<(), CandFault>
-    requires parts { Each parts.now (λ part. part ⊆ to.now) }
-    requires ready { HaveFewWays lines.now from.now to.now }
-    ensures ways { OnOk result (found.new ≡ found.old ++ map (ways_of lines.now from.now) parts.now) }
-    ensures fault { IfErr result (λ e. e ≡ Memory) }
-{
-    for part in parts {
-        let some = ways(alloc, lines, from, part.items())?;
-        found.push(Items::from_vec(some))?;
+impl<'a> LinesBetween<'a> {
+    // The ways of each of these parts of the source's unfolding with the whole of the target's.
+    pub(crate) fn add_source_ways(
+        &self,
+        alloc: Global,
+        parts: &[Items<Occurrence>],
+        found: &mut Items<Items<Pick>>,
+    ) -> Result<(), CandFault>
+        requires parts { Each parts.now (λ part. part ⊆ self.now.from.now) }
+        requires ready { HaveFewWays self.now.lines.now self.now.from.now self.now.to.now }
+        ensures ways { OnOk result (found.new ≡ found.old
+            ++ map (λ part. ways_of self.now.lines.now part self.now.to.now) parts.now) }
+        ensures fault { IfErr result (λ e. e ≡ Memory) }
+    {
+        for part in parts {
+            let some = ways(alloc, self.lines, part.items(), self.to)?;
+            found.push(Items::from_vec(some))?;
+        }
+        Ok(())
     }
-    Ok(())
+
+    // The ways of the whole of the source's unfolding with each of these parts of the target's.
+    pub(crate) fn add_target_ways(
+        &self,
+        alloc: Global,
+        parts: &[Items<Occurrence>],
+        found: &mut Items<Items<Pick>>,
+    ) -> Result<(), CandFault>
+        requires parts { Each parts.now (λ part. part ⊆ self.now.to.now) }
+        requires ready { HaveFewWays self.now.lines.now self.now.from.now self.now.to.now }
+        ensures ways { OnOk result (found.new ≡ found.old
+            ++ map (ways_of self.now.lines.now self.now.from.now) parts.now) }
+        ensures fault { IfErr result (λ e. e ≡ Memory) }
+    {
+        for part in parts {
+            let some = ways(alloc, self.lines, self.from, part.items())?;
+            found.push(Items::from_vec(some))?;
+        }
+        Ok(())
+    }
 }
 
 // Whether each pick is one of these.
 fn are_among(found: &[Pick], picks: &[Pick]) -> bool
     ensures { result ≡ are_among_of picks.now found.now }
 {
-    for pick in picks {
-        if !is_among(found, pick) {
-            return false;
-        }
-    }
-    true
+    picks.iter().all(|pick| is_among(found, pick))
 }
 
 // Whether some part has all these picks among its ways.
 pub(crate) fn is_in_part(parts: &[Items<Pick>], picks: &[Pick]) -> bool
     ensures { result ≡ list_any (are_among_of picks.now) parts.now }
 {
-    for found in parts {
-        if are_among(found.items(), picks) {
-            return true;
-        }
-    }
-    false
+    parts.iter().any(|found| are_among(found.items(), picks))
 }

@@ -1,7 +1,0 @@
-use Rattle.std.proofs.Common.{◌≡◌, ◌++◌, take}
-use Rattle.std.specs.Prelude.{map}
-use Rattle.dx_lines.specs.Ways.{ways}
-use Rattle.dx_candidates.proofs.part_ways.add_source_ways.Given as goal
-
-abbrev pub invariant-loop-part : goal.invariant-loop-part
-invariant-loop-part l = l.found ≡ l.initial.found ++ map (λ part. ways l.lines part l.to) (take l.part-index l.parts)
