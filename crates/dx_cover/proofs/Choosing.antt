@@ -1,7 +1,7 @@
 -- Atoms for which none of the others can be chosen.
 use Rattle.std.proofs.Common.{◌≡◌, ◌<◌, ℕ, zero, suc, Bool, true, false, List, [], ◌∷◌, ◌++◌, inl, inr, refl, sym, ◌∙◌, ap, subst, arith, length, get_or}
 use Rattle.std.specs.Prelude.{◌&&◌, eqb, map, not}
-use Rattle.std.specs.List.{filter}
+use Rattle.std.specs.List.{filter, zip}
 use Rattle.std.proofs.lemmas.Bool.{and_parts, cases_Bool, eqb-true}
 use Rattle.dx_base.specs.Members.{◌∈◌, ◌⊆◌, here, there}
 use Rattle.dx_base.proofs.Members.{from_flat_map, from_map, in_left, in_right}
@@ -55,6 +55,15 @@ meets_at (x ∷ cs) (y ∷ es) (suc i) c d h l e f = let w = meets_at cs es i c 
 pub excluded_at : (bound : List Meeting) (a b : Atom) (i : ℕ) (c d : Cell) → i < length a.cells → length a.cells ≡ length b.cells → c ≡ get_or a.cells i c → d ≡ get_or b.cells i d
     → NeverMeet bound c d → IsExcluded bound a b
 excluded_at bound a b i c d h l e f n more s = let w = meets_at a.cells b.cells i c d h l e f in n more w.0 (s w.0 w.1) w.2 w.3
+
+meets_in_zip : (cs es : List Cell) (p : Cell × Cell) → p ∈ zip cs es → (m : Meeting) × (m ∈ meet cs es) × (m.cell ≡ p.0) × (m.met ≡ p.1)
+meets_in_zip [] es p m = elim m [ ]
+meets_in_zip (c ∷ cs) [] p m = elim m [ ]
+meets_in_zip (c ∷ cs) (e ∷ es) p (here q) = (record { cell = c; met = e }, here refl, ap (λ (z : Cell × Cell). z.0) q, ap (λ (z : Cell × Cell). z.1) q)
+meets_in_zip (c ∷ cs) (e ∷ es) p (there k) = let w = meets_in_zip cs es p k in (w.0, there w.1, w.2, w.3)
+
+pub excluded_by : (bound : List Meeting) (a b : Atom) (p : Cell × Cell) → p ∈ zip a.cells b.cells → NeverMeet bound p.0 p.1 → IsExcluded bound a b
+excluded_by bound a b p k n more s = let w = meets_in_zip a.cells b.cells p k in n more w.0 (s w.0 w.1) w.2 w.3
 
 -- ---- the rest
 

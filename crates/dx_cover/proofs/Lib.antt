@@ -4,6 +4,7 @@ pub mod Searching
 pub mod Memory
 pub mod Covering
 pub mod Asked
+pub mod Same
 pub mod Choosing
 pub mod Pairing
 pub mod Examples

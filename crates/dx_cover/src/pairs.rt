@@ -2,6 +2,7 @@
 ghost use Rattle.std.specs.Prelude.{◌≡◌, ◌<◌, false, true, IfOk, List, [], length};
 ghost use Rattle.dx_base.specs.Members.{◌∈◌, Each, behind};
 ghost use Rattle.dx_model.specs.declared.rules.Atom.{Atom as AtomValue};
+ghost use Rattle.dx_model.specs.declared.covers.Meeting.{Meeting as MeetingValue};
 ghost use Rattle.dx_model.specs.declared.rules.Rule.{Rule as RuleValue};
 ghost use Rattle.dx_cover.specs.Pairs.{Disagree, IsChoice, IsNarrowing, IsShared, IsWithin};
 ghost use Rattle.dx_cover.specs.Partners.{IsExcluded};
@@ -59,25 +60,30 @@ fn met_places(alloc: Global, atom: &Atom, bound: &[Meeting]) -> Result<Vec<usize
     Ok(places)
 }
 
+/// Whether the other atom can't be chosen at all: a cell may not meet its cell.
+fn is_forbidden(atom: &Atom, other: &Atom) -> bool
+    ensures { result ≡ true → (bound : List MeetingValue) → IsExcluded bound atom.now other.now }
+{
+    let cells = atom.cells.items();
+    let others = other.cells.items();
+    cells
+        .iter()
+        .zip(others)
+        .any(|(cell, met)| !is_allowed(cell, met))
+}
+
 /// Whether the other atom can't be chosen any more: a cell may not meet its cell, or one in these places has met another.
 fn is_excluded_at(atom: &Atom, other: &Atom, places: &[usize], bound: &[Meeting]) -> bool
     requires width { length atom.now.cells ≡ length other.now.cells }
     requires within { Each places.now (λ p. p < length atom.now.cells) }
     ensures { result ≡ true → IsExcluded bound.now atom.now other.now }
 {
+    if is_forbidden(atom, other) {
+        return true;
+    }
     let cells = atom.cells.items();
     let others = other.cells.items();
-    for i in 0..cells.len() {
-        if !is_allowed(&cells[i], &others[i]) {
-            return true;
-        }
-    }
-    for place in places {
-        if never_meets(&cells[*place], &others[*place], bound) {
-            return true;
-        }
-    }
-    false
+    places.iter().any(|place| never_meets(&cells[*place], &others[*place], bound))
 }
 
 /// The atom, with those of the others that the meetings don't exclude.

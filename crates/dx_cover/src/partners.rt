@@ -25,12 +25,10 @@ pub(crate) fn is_excluded(atom: &Atom, other: &Atom, bound: &[Meeting]) -> bool
 {
     let cells = atom.cells.items();
     let others = other.cells.items();
-    for i in 0..cells.len() {
-        if never_meets(&cells[i], &others[i], bound) {
-            return true;
-        }
-    }
-    false
+    cells
+        .iter()
+        .zip(others)
+        .any(|(cell, met)| never_meets(cell, met, bound))
 }
 
 /// Whether one of the others may still be chosen for the atom.

@@ -60,12 +60,9 @@ pub(crate) fn are_same_cells(a: &[Cell], b: &[Cell]) -> bool
     if a.len() != b.len() {
         return false;
     }
-    for i in 0..a.len() {
-        if !is_same_cell(&a[i], &b[i]) {
-            return false;
-        }
-    }
-    true
+    a.iter()
+        .zip(b)
+        .all(|(cell, other)| is_same_cell(cell, other))
 }
 
 /// Whether one of the maps agrees with this one on the exported variables.
@@ -305,7 +302,6 @@ fn is_hopeless(
 /// none.
 #[cycle(extend)]
 pub(crate) fn extend(
-    alloc: Global,
     problem: &Problem<'_>,
     rest: &[Atom],
     bound: &mut Vec<Meeting>,
@@ -320,13 +316,13 @@ pub(crate) fn extend(
         ≡ found_after search.old.found.items (maps_under problem.now.rule.now bound.old.items rest.now problem.now.others.now)) }
     ensures none { IfOk result (λ any. any ≡ false → maps_under problem.now.rule.now bound.old.items rest.now problem.now.others.now ≡ []) }
 {
-    match look_ahead(alloc, problem, rest, bound.as_slice(), search)? {
+    match look_ahead(problem.alloc, problem, rest, bound.as_slice(), search)? {
         Outlook::NoMap => return Ok(false),
         Outlook::NothingNew => return Ok(true),
         Outlook::Open => {}
     }
     let hopeless = is_hopeless(
-        alloc,
+        problem.alloc,
         rest,
         problem.others,
         bound.as_slice(),
@@ -337,12 +333,12 @@ pub(crate) fn extend(
     }
     match rest.split_first() {
         None => {
-            add_map_made(alloc, problem, bound.as_slice(), &mut search.found)?;
+            add_map_made(problem.alloc, problem, bound.as_slice(), &mut search.found)?;
             Ok(true)
         }
         Some((first, after)) => {
-            let any = extend_by_choice(alloc, problem, first, after, bound, search)?;
-            remember(alloc, rest, bound.as_slice(), any, search)?;
+            let any = extend_by_choice(problem, first, after, bound, search)?;
+            remember(problem.alloc, rest, bound.as_slice(), any, search)?;
             Ok(any)
         }
     }
@@ -352,7 +348,6 @@ pub(crate) fn extend(
 /// of those after it one of the others: false if there is none.
 #[cycle(extend)]
 pub(crate) fn extend_by_choice(
-    alloc: Global,
     problem: &Problem<'_>,
     first: &Atom,
     after: &[Atom],
@@ -375,7 +370,7 @@ pub(crate) fn extend_by_choice(
         if first.table == other.table && !is_excluded(first, other, bound.as_slice()) {
             let cells = first.cells.items();
             add_meetings(bound, cells, other.cells.items())?;
-            any |= extend(alloc, problem, after, bound, search)?;
+            any |= extend(problem, after, bound, search)?;
             bound.truncate(start);
         }
     }
@@ -393,6 +388,7 @@ pub fn cover(alloc: Global, i: &Rule, j: &Rule) -> Result<Vec<CellMap>, AllocErr
     ensures { IfOk result (λ v. v.items ≡ used_maps i.now j.now) }
 {
     let problem = Problem {
+        alloc,
         rule: i,
         others: j.conclusion.items(),
         variables: exported(alloc, i)?,
@@ -405,6 +401,6 @@ pub fn cover(alloc: Global, i: &Rule, j: &Rule) -> Result<Vec<CellMap>, AllocErr
         gone: Vec::new(alloc),
         dead: Vec::new(alloc),
     };
-    extend(alloc, &problem, rest, &mut bound, &mut search)?;
+    extend(&problem, rest, &mut bound, &mut search)?;
     Ok(search.found)
 }

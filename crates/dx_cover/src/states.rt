@@ -82,12 +82,9 @@ pub(crate) fn are_same_meetings(a: &[Meeting], b: &[Meeting]) -> bool
     if a.len() != b.len() {
         return false;
     }
-    for i in 0..a.len() {
-        if !is_same_cell(&a[i].cell, &b[i].cell) || !is_same_cell(&a[i].met, &b[i].met) {
-            return false;
-        }
-    }
-    true
+    a.iter().zip(b).all(|(meeting, other)| {
+        is_same_cell(&meeting.cell, &other.cell) && is_same_cell(&meeting.met, &other.met)
+    })
 }
 
 /// Whether two states are one.

@@ -1,39 +1,27 @@
-use Rattle.std.proofs.Common.{◌<◌, length, get_or, sym, ◌∙◌, rules}
-use Rattle.dx_base.proofs.Members.{each_at}
-use Rattle.dx_cover.proofs.Choosing.{excluded_at, not_allowed}
+use Rattle.std.proofs.Common.{◌<◌, ℕ, length, rules, tests}
+use Rattle.std.proofs.lemmas.Iterator.{cases_from_any, YieldsList-from_slice}
+use Rattle.std.proofs.lemmas.Iterator.Adapters.{serves_from_places}
+use Rattle.dx_base.proofs.Members.{item_in}
+use Rattle.dx_cover.specs.Partners.{IsExcluded}
+use Rattle.dx_cover.proofs.Asked.{told_one}
+use Rattle.dx_cover.proofs.Choosing.{excluded_at}
 use Rattle.dx_cover.proofs.pairs.is_excluded_at.Goals as goal
 
-pub returns-then-not-is_allowed : goal.returns-then-not-is_allowed
-returns-then-not-is_allowed c = λ e.
-    let below : c.loop-i.i < length c.args.atom.now.cells = rw (sym c.items-cells.ensures) c.loop-i-test.true in
-    let own = rw c.items-cells.ensures at c.index-cells-i.is in
-    let met = rw c.items-others.ensures at c.index-others-i.is in
-    excluded_at c.args.bound.now c.args.atom.now c.args.other.now c.loop-i.i c.index-cells-i.result c.index-others-i.result below c.requires.width own met
-    (not_allowed c.args.bound.now c.index-cells-i.result c.index-others-i.result (sym c.is_allowed.ensures ∙ c.if-not-is_allowed.true))
+pub returns-then-is_forbidden : goal.returns-then-is_forbidden
+returns-then-is_forbidden c = λ e. c.is_forbidden.ensures c.if-is_forbidden.true c.args.bound.now
 
-pub offset_bounds-cells-place : goal.offset_bounds-cells-place
-offset_bounds-cells-place c =
-    let w = each_at (λ p. p < length c.args.atom.now.cells) c.args.places.now c.loop-place.place-index 0 c.loop-place-test.true c.requires.within in
-    let below = rw (sym c.items-cells.ensures) at w in
-    search rules
+pub any-requires-clause-callable : goal.any-requires-clause-callable
+any-requires-clause-callable c =
+    serves_from_places (YieldsList-from_slice c.args.places.now (cc)) (λ x q m. search rules) (λ x k h e.
+    let below = c.requires.within x.now (item_in c.args.places.now k x.now h e) in
+    let own : x.now < length c.items-cells.result.now = rw c.items-cells.ensures below in
+    let its : x.now < length c.items-others.result.now = rw c.items-others.ensures (rw c.requires.width at below) in
+    search (rules, own, its))
 
-pub bounds-cells-place : goal.bounds-cells-place
-bounds-cells-place c = rw c.items-cells.ensures (each_at (λ p. p < length c.args.atom.now.cells) c.args.places.now c.loop-place.place-index 0 c.loop-place-test.true c.requires.within)
-
-pub offset_bounds-others-place : goal.offset_bounds-others-place
-offset_bounds-others-place c =
-    let w = each_at (λ p. p < length c.args.atom.now.cells) c.args.places.now c.loop-place.place-index 0 c.loop-place-test.true c.requires.within in
-    let below = rw (c.requires.width, sym c.items-others.ensures) at w in
-    search rules
-
-pub bounds-others-place : goal.bounds-others-place
-bounds-others-place c =
-    let w = each_at (λ p. p < length c.args.atom.now.cells) c.args.places.now c.loop-place.place-index 0 c.loop-place-test.true c.requires.within in
-    rw c.items-others.ensures (rw c.requires.width at w)
-
-pub returns-then-never_meets : goal.returns-then-never_meets
-returns-then-never_meets c = λ e.
-    let below = each_at (λ p. p < length c.args.atom.now.cells) c.args.places.now c.loop-place.place-index 0 c.loop-place-test.true c.requires.within in
-    let own = rw c.items-cells.ensures at c.index-cells-place.is in
-    let met = rw c.items-others.ensures at c.index-others-place.is in
-    excluded_at c.args.bound.now c.args.atom.now c.args.other.now (get_or c.args.places.now c.loop-place.place-index 0) c.index-cells-place.result c.index-others-place.result below c.requires.width own met (c.never_meets.ensures c.if-never_meets.true)
+pub returns : goal.returns
+returns c =
+    let shut : ℕ → Type 0 = λ p. p < length c.args.atom.now.cells → IsExcluded c.args.bound.now c.args.atom.now c.args.other.now in
+    let width = c.requires.width in
+    let by_call = cases_from_any _ _ _ shut (λ p. Unit {0}) c.any.ensures.ran (YieldsList-from_slice c.args.places.now (cc)) (λ x q k w. search (rules, tests, excluded_at, w, width)) (λ x q k. search (rules, tests)) in
+    λ e. let w = told_one shut (λ (p : ℕ). Unit {0}) _ c.args.places.now by_call e in
+    w.2 (c.requires.within w.0 w.1)

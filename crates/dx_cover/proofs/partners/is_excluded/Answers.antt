@@ -1,10 +1,14 @@
-use Rattle.std.proofs.Common.{◌<◌, length, sym}
-use Rattle.dx_cover.proofs.Choosing.{excluded_at}
+use Rattle.std.proofs.Common.{sym, rules, tests}
+use Rattle.std.proofs.lemmas.Iterator.{cases_from_any, YieldsList-from_slice, YieldsList-from_zip}
+use Rattle.dx_model.specs.declared.rules.Cell.{Cell}
+use Rattle.dx_cover.specs.Partners.{NeverMeet}
+use Rattle.dx_cover.proofs.Asked.{told_one}
+use Rattle.dx_cover.proofs.Choosing.{excluded_by}
 use Rattle.dx_cover.proofs.partners.is_excluded.Goals as goal
 
-pub returns-then-never_meets : goal.returns-then-never_meets
-returns-then-never_meets c = λ e.
-    let below : c.loop-i.i < length c.args.atom.now.cells = rw (sym c.items-cells.ensures) c.loop-i-test.true in
-    let own = rw c.items-cells.ensures at c.index-cells-i.is in
-    let met = rw c.items-others.ensures at c.index-others-i.is in
-    excluded_at c.args.bound.now c.args.atom.now c.args.other.now c.loop-i.i c.index-cells-i.result c.index-others-i.result below c.requires own met (c.never_meets.ensures c.if-never_meets.true)
+pub returns : goal.returns
+returns c =
+    let never : Cell × Cell → Type 0 = λ p. NeverMeet c.args.bound.now p.0 p.1 in
+    let by_call = cases_from_any c.any.new.self _ _ never (λ p. Unit {0}) c.any.ensures.ran (YieldsList-from_zip (YieldsList-from_slice c.items-cells.result.now (cc)) (YieldsList-from_slice c.items-others.result.now (cc))) (λ x q k. search (rules, tests)) (λ x q k. search (rules, tests)) in
+    λ e. let w = told_one never (λ (p : Cell × Cell). Unit {0}) _ _ by_call e in
+    excluded_by c.args.bound.now c.args.atom.now c.args.other.now w.0 (rw (sym c.items-cells.ensures, sym c.items-others.ensures) w.1) w.2
