@@ -24,6 +24,7 @@ mod plain;
 mod planned;
 mod planning;
 mod rule_matches;
+mod source;
 mod texts;
 mod tuple;
 mod variables;

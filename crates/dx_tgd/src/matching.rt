@@ -10,11 +10,12 @@ ghost use Rattle.dx_tgd.specs.Asked.{IsMatchable};
 ghost use Rattle.dx_tgd.specs.Found.{IsFoundRule, IsTuple};
 
 use crate::found::one_in_order;
+use crate::source::Source;
 use crate::texts::places_of_rows;
 use crate::variables::exported;
 use dx_base::{Items, Text};
 use dx_funcs::{Host, Meaning};
-use dx_instance::{Instance, Numbers, Rows, Symbols};
+use dx_instance::{Instance, Rows, Symbols};
 use dx_joins::shown_rows;
 use dx_model::{Places, Rule};
 use std::alloc::{AllocError, Global};
@@ -28,19 +29,21 @@ use std::alloc::{AllocError, Global};
 pub(crate) fn rule_rows<F: Fn(u32, &Items<Text>) -> Result<Text, AllocError>, M: Meaning>(
     alloc: Global,
     rule: &Rule,
-    source: &Numbers,
+    source: &Source<'_, '_, F, M>,
     symbols: &mut Symbols,
-    host: &Host<F, M>,
     most: u64,
 ) -> Result<Option<Rows>, AllocError>
-    requires serves { Serves F.Fn M.apply host.now }
-    requires rule { IsMatchable (offered host.now) (widths (shown_tables source.now.symbols source.now.tables)) rule.now }
-    requires symbols { Extends source.now.symbols symbols.old }
+    requires serves { Serves F.Fn M.apply source.now.host.now }
+    requires rule { IsMatchable (offered source.now.host.now)
+        (widths (shown_tables source.now.rows.now.symbols source.now.rows.now.tables)) rule.now }
+    requires symbols { Extends source.now.rows.now.symbols symbols.old }
     ensures grows { Extends symbols.old symbols.new }
     ensures apart { ValuesDiffer symbols.new }
     ensures rows { IfOk result (λ o. MatchOption o
-        (MoreTuples most (IsTuple M.apply (facts (shown_tables source.now.symbols source.now.tables)) rule.now))
-        (IsFoundRule M.apply (facts (shown_tables source.now.symbols source.now.tables)) symbols.new rule.now)) }
+        (MoreTuples most
+        (IsTuple M.apply (facts (shown_tables source.now.rows.now.symbols source.now.rows.now.tables)) rule.now))
+        (IsFoundRule M.apply
+        (facts (shown_tables source.now.rows.now.symbols source.now.rows.now.tables)) symbols.new rule.now)) }
 {
     // The call tells that no value has two numbers.
     prove!(symbols.len() <= u32::MAX as u64);
@@ -48,7 +51,14 @@ pub(crate) fn rule_rows<F: Fn(u32, &Items<Text>) -> Result<Text, AllocError>, M:
     let premise = rule.premise.items();
     let derived = rule.derived.items();
     shown_rows(
-        alloc, premise, derived, &columns, source, symbols, host, most,
+        alloc,
+        premise,
+        derived,
+        &columns,
+        source.rows,
+        symbols,
+        source.host,
+        most,
     )
 }
 
@@ -69,7 +79,11 @@ pub fn match_rows<F: Fn(u32, &Items<Text>) -> Result<Text, AllocError>, M: Meani
 {
     let numbers = source.numbers();
     let mut symbols = numbers.copy_symbols(alloc)?;
-    let found = rule_rows(alloc, rule, &numbers, &mut symbols, host, u64::MAX)?;
+    let given = Source {
+        rows: &numbers,
+        host,
+    };
+    let found = rule_rows(alloc, rule, &given, &mut symbols, u64::MAX)?;
     match found {
         Some(rows) => {
             let (symbols, rows) = one_in_order(alloc, symbols, rows)?;

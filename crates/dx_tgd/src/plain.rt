@@ -23,9 +23,10 @@ use crate::found::Found;
 use crate::made::Made;
 use crate::matching::rule_rows;
 use crate::rule_matches::RuleMatches;
+use crate::source::Source;
 use dx_base::{Count, Items, Limit, Text};
 use dx_funcs::{Host, Meaning};
-use dx_instance::{Instance, Numbers, Symbols, Value};
+use dx_instance::{Instance, Symbols, Value};
 use dx_model::{Cell, Rule};
 use dx_schema::Schema;
 use std::alloc::{AllocError, Global};
@@ -70,29 +71,28 @@ fn passed(limit: u64) -> CanonFault
 fn found_rules<F: Fn(u32, &Items<Text>) -> Result<Text, AllocError>, M: Meaning>(
     alloc: Global,
     rules: &[Rule],
-    source: &Numbers,
-    host: &Host<F, M>,
+    source: &Source<'_, '_, F, M>,
     limit: u64,
 ) -> Result<Found, CanonFault>
-    requires serves { Serves F.Fn M.apply host.now }
-    requires matchable { Each rules.now
-        (IsMatchable (offered host.now) (widths (shown_tables source.now.symbols source.now.tables))) }
+    requires serves { Serves F.Fn M.apply source.now.host.now }
+    requires matchable { Each rules.now (IsMatchable (offered source.now.host.now)
+        (widths (shown_tables source.now.rows.now.symbols source.now.rows.now.tables))) }
     requires cells { Each rules.now HasCell }
     ensures found { IfOk result (λ f. AllRulesFound M.apply
-        (facts (shown_tables source.now.symbols source.now.tables)) f.symbols rules.now f.tables.items) }
+        (facts (shown_tables source.now.rows.now.symbols source.now.rows.now.tables)) f.symbols rules.now f.tables.items) }
     ensures within { IfOk result (λ f. canonical_cells rules.now (tuples_in f.symbols f.tables.items) ≤ limit) }
     ensures refused { IfErr result (IsCanonicalRefusal M.apply rules.now
-        (facts (shown_tables source.now.symbols source.now.tables)) limit) }
+        (facts (shown_tables source.now.rows.now.symbols source.now.rows.now.tables)) limit) }
 {
     // The call tells that no value has two numbers.
-    prove!((source.len() as u64) < 1 << 32);
-    let mut symbols = source.copy_symbols(alloc)?;
+    prove!((source.rows.len() as u64) < 1 << 32);
+    let mut symbols = source.rows.copy_symbols(alloc)?;
     let mut tables = Vec::new(alloc);
     let mut left = limit;
     for rule in rules {
         let cells = conclusion_cells(rule);
         intern_literals(rule, &mut symbols)?;
-        let found = rule_rows(alloc, rule, source, &mut symbols, host, left / cells)?;
+        let found = rule_rows(alloc, rule, source, &mut symbols, left / cells)?;
         let Some(rows) = found else {
             return Err(passed(limit));
         };
@@ -131,7 +131,12 @@ pub fn canonical_plain<F: Fn(u32, &Items<Text>) -> Result<Text, AllocError>, M: 
     ensures refused { IfErr result (IsCanonicalRefusal M.apply rules.now (facts source.now) limit) }
 {
     let columns = target.widths(alloc)?;
-    let found = found_rules(alloc, rules, &source.numbers(), host, limit)?;
+    let numbers = source.numbers();
+    let given = Source {
+        rows: &numbers,
+        host,
+    };
+    let found = found_rules(alloc, rules, &given, limit)?;
     let ordered = found.in_order(alloc)?;
     let symbols = ordered.symbols.copy(alloc)?;
     let instance = canonical_of_rows(alloc, rules, &ordered.tables, symbols, &columns)?;

@@ -94,9 +94,10 @@ fn planned_cell(
 {
     match cell {
         Cell::Var(x) => Ok(PlannedCell::Column(column_of(at.variables, *x))),
-        Cell::Ex(v) => Ok(PlannedCell::Nulls(null_numbers(
-            alloc, symbols, at.rule, *v, at.places,
-        )?)),
+        Cell::Ex(v) => {
+            let numbers = null_numbers(alloc, symbols, at.rule, *v, at.places)?;
+            Ok(PlannedCell::Nulls(numbers))
+        }
         Cell::Lit(text) => {
             let number = number_for(symbols, Value::Const(text.copy()?))?;
             Ok(PlannedCell::Fixed(number))
@@ -112,7 +113,8 @@ fn planned_cells(
     symbols: &mut Symbols,
 ) -> Result<Vec<PlannedCell>, AllocError>
     requires listed { (x : ℕ) → Var x ∈ cells.now → x ∈ at.now.variables.now }
-    ensures planned { IfOk result (λ v. AllZip (IsCellPlan symbols.new at.now.rule at.now.variables.now at.now.places) v.items cells.now) }
+    ensures planned { IfOk result (λ v. AllZip
+        (IsCellPlan symbols.new at.now.rule at.now.variables.now at.now.places) v.items cells.now) }
     ensures grows { Extends symbols.old symbols.new }
 {
     let mut planned = Vec::new(alloc);
@@ -130,7 +132,8 @@ pub(crate) fn planned_atoms(
     symbols: &mut Symbols,
 ) -> Result<Vec<PlannedAtom>, AllocError>
     requires listed { Each atoms.now (λ a. (x : ℕ) → Var x ∈ a.cells → x ∈ at.now.variables.now) }
-    ensures planned { IfOk result (λ v. AllZip (IsPlannedAtom symbols.new at.now.rule at.now.variables.now at.now.places) v.items atoms.now) }
+    ensures planned { IfOk result (λ v. AllZip
+        (IsPlannedAtom symbols.new at.now.rule at.now.variables.now at.now.places) v.items atoms.now) }
     ensures grows { Extends symbols.old symbols.new }
 {
     let mut planned = Vec::new(alloc);

@@ -18,7 +18,7 @@ use Rattle.dx_tgd.proofs.plain.canonical_plain.Goals as goal
 
 pub found_rules-requires-clause-matchable : goal.found_rules-requires-clause-matchable
 found_rules-requires-clause-matchable g c =
-    subst (λ (I : List TableRows). Each c.args.rules.now (IsMatchable (offered c.args.host.now) (widths I))) (sym c.numbers.ensures.shown) c.requires.rules.matchable
+    subst (λ (I : List TableRows). Each c.args.rules.now (IsMatchable (offered c.args.host.now) (widths I))) (sym c.numbers-numbers.ensures.shown) c.requires.rules.matchable
 
 pub found_rules-requires-clause-cells : goal.found_rules-requires-clause-cells
 found_rules-requires-clause-cells g c =
@@ -26,15 +26,15 @@ found_rules-requires-clause-cells g c =
 
 pub in_order-requires-clause-ascend : goal.in_order-requires-clause-ascend
 in_order-requires-clause-ascend g c =
-    found_ascend g.M.Meaning.apply (facts (shown_tables c.numbers.result.symbols c.numbers.result.tables)) c.in_ok-found.found.symbols c.args.rules.now c.in_ok-found.found.tables.items c.in_ok-found.ensures.found
+    found_ascend g.M.Meaning.apply (facts (shown_tables c.numbers-numbers.result.symbols c.numbers-numbers.result.tables)) c.in_ok-found.found.symbols c.args.rules.now c.in_ok-found.found.tables.items c.in_ok-found.ensures.found
 
 pub in_order-requires-clause-texts : goal.in_order-requires-clause-texts
 in_order-requires-clause-texts g c =
-    found_texts g.M.Meaning.apply (facts (shown_tables c.numbers.result.symbols c.numbers.result.tables)) c.in_ok-found.found.symbols c.args.rules.now c.in_ok-found.found.tables.items c.in_ok-found.ensures.found
+    found_texts g.M.Meaning.apply (facts (shown_tables c.numbers-numbers.result.symbols c.numbers-numbers.result.tables)) c.in_ok-found.found.symbols c.args.rules.now c.in_ok-found.found.tables.items c.in_ok-found.ensures.found
 
 pub new-requires-clause-few : goal.new-requires-clause-few
 new-requires-clause-few g c =
-    let I = facts (shown_tables c.numbers.result.symbols c.numbers.result.tables) in
+    let I = facts (shown_tables c.numbers-numbers.result.symbols c.numbers-numbers.result.tables) in
     let found = AllZip-long (IsFoundRule g.M.Meaning.apply I c.in_ok-found.found.symbols) c.args.rules.now c.in_ok-found.found.tables.items c.in_ok-found.ensures.found in
     let same = AllZip-long (IsRenumbering c.in_ok-found.found.symbols c.in_ok-ordered.ordered.symbols) c.in_ok-found.found.tables.items c.in_ok-ordered.ordered.tables.items c.in_ok-ordered.ensures.same in
     let few = c.requires.rules.few in
@@ -42,7 +42,7 @@ new-requires-clause-few g c =
 
 pub new-requires-clause-texts : goal.new-requires-clause-texts
 new-requires-clause-texts g c =
-    let I = facts (shown_tables c.numbers.result.symbols c.numbers.result.tables) in
+    let I = facts (shown_tables c.numbers-numbers.result.symbols c.numbers-numbers.result.tables) in
     let S = c.in_ok-ordered.ordered.symbols in
     let ts = c.in_ok-ordered.ordered.tables.items in
     let found = found_reordered g.M.Meaning.apply I c.in_ok-found.found.symbols S c.args.rules.now c.in_ok-found.found.tables.items ts c.in_ok-ordered.ensures.same c.in_ok-found.ensures.found in
@@ -50,7 +50,7 @@ new-requires-clause-texts g c =
 
 pub canonical_of_rows-requires : goal.canonical_of_rows-requires
 canonical_of_rows-requires g c =
-    let I = facts (shown_tables c.numbers.result.symbols c.numbers.result.tables) in
+    let I = facts (shown_tables c.numbers-numbers.result.symbols c.numbers-numbers.result.tables) in
     let S = c.in_ok-ordered.ordered.symbols in
     let ts = c.in_ok-ordered.ordered.tables.items in
     let found = found_reordered g.M.Meaning.apply I c.in_ok-found.found.symbols S c.args.rules.now c.in_ok-found.found.tables.items ts c.in_ok-ordered.ensures.same c.in_ok-found.ensures.found in
@@ -68,12 +68,12 @@ canonical_of_rows-requires g c =
 
 pub returns-clause-matches : goal.returns-clause-matches
 returns-clause-matches g c =
-    let I = facts (shown_tables c.numbers.result.symbols c.numbers.result.tables) in
+    let I = facts (shown_tables c.numbers-numbers.result.symbols c.numbers-numbers.result.tables) in
     let S = c.in_ok-ordered.ordered.symbols in
     let ts = c.in_ok-ordered.ordered.tables.items in
     let found = found_reordered g.M.Meaning.apply I c.in_ok-found.found.symbols S c.args.rules.now c.in_ok-found.found.tables.items ts c.in_ok-ordered.ensures.same c.in_ok-found.ensures.found in
     let rows = all_rule_rows g.M.Meaning.apply I S c.args.rules.now ts c.in_ok-ordered.ensures.ascend found in
-    let here = subst (λ (J : List TableRows). AreRows g.M.Meaning.apply c.args.rules.now (facts J) (tuples_in S ts)) c.numbers.ensures.shown rows in
+    let here = subst (λ (J : List TableRows). AreRows g.M.Meaning.apply c.args.rules.now (facts J) (tuples_in S ts)) c.numbers-numbers.ensures.shown rows in
     subst (λ (rs : Rows). AreRows g.M.Meaning.apply c.args.rules.now (facts c.args.source.now) rs) (sym c.new.ensures) here
 
 pub returns-clause-within : goal.returns-clause-within

@@ -6,4 +6,4 @@ use Rattle.dx_tgd.proofs.plain.found_rules.Given as goal
 
 -- what is found of the rules so far
 abbrev pub invariant-loop-rule : goal.invariant-loop-rule
-invariant-loop-rule g l = FoundSoFar g.M.Meaning.apply (facts (shown_tables l.source.symbols l.source.tables)) l.source.symbols l.symbols (take l.rule-index l.rules) l.tables.items l.limit l.left
+invariant-loop-rule g l = FoundSoFar g.M.Meaning.apply (facts (shown_tables l.source.rows.now.symbols l.source.rows.now.tables)) l.source.rows.now.symbols l.symbols (take l.rule-index l.rules) l.tables.items l.limit l.left
