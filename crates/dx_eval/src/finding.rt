@@ -15,6 +15,7 @@ ghost use Rattle.dx_eval.specs.Finding.{AllStepsFound, IsFoundUpTo, IsEvalRefusa
 
 use crate::fault::EvalFault;
 use crate::matching::step_rows;
+use crate::selection::Selection;
 use crate::source::Source;
 use dx_base::{Count, Items, Limit, Text, no_number_left};
 use dx_funcs::Meaning;
@@ -109,22 +110,21 @@ fn matched_rows<F: Fn(u32, &Items<Text>) -> Result<Text, AllocError>, M: Meaning
         symbols.new o)) }
 {
     // The call tells that no value has two numbers.
-    let _few = symbols.len();
+    prove!(symbols.len() <= u32::MAX as u64);
     match step {
         Step::MatchRows {
             select,
             sources,
             equal,
             ..
-        } => step_rows(
-            alloc,
-            source,
-            select.items(),
-            sources.items(),
-            equal.items(),
-            symbols,
-            most,
-        ),
+        } => {
+            let selection = Selection {
+                select: select.items(),
+                sources: sources.items(),
+                equal: equal.items(),
+            };
+            step_rows(alloc, source, &selection, symbols, most)
+        }
         _ => Ok(None),
     }
 }
@@ -151,7 +151,7 @@ pub(crate) fn found_steps<F: Fn(u32, &Items<Text>) -> Result<Text, AllocError>, 
         (facts (shown_tables source.now.rows.now.symbols source.now.rows.now.tables)) limit) }
 {
     // The call tells that no value has two numbers.
-    let _few = source.rows.len();
+    prove!((source.rows.len() as u64) < 1 << 32);
     let mut symbols = source.rows.copy_symbols(alloc)?;
     let mut tables = Vec::new(alloc);
     let mut left = limit;

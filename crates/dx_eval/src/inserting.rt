@@ -27,27 +27,30 @@ use dx_script::{Out, Step};
 use dx_tgd::Builder;
 use std::alloc::{AllocError, Global};
 
-// The number of what an insert puts into a column, for the row at a place of a rule.
-fn number_of(
-    out: &Out,
+// A place of a rule's match table, and the row there.
+#[derive(Clone, Copy)]
+struct RulePlace<'a> {
     rule: u32,
     place: u32,
-    row: &[u32],
-    target: &mut Builder,
-) -> Result<u32, AllocError>
-    requires stands { OutStands (length row.now) out.now }
-    requires texts { AllTexts target.old.symbols row.now }
-    ensures number { IfOk result (λ n. StandsAs target.new.symbols n (inserted rule place (texts_of target.old.symbols row.now) out.now)) }
+    row: &'a [u32],
+}
+
+// The number of what an insert puts into a column for a place.
+fn number_of(out: &Out, at: &RulePlace<'_>, target: &mut Builder) -> Result<u32, AllocError>
+    requires stands { OutStands (length at.now.row.now) out.now }
+    requires texts { AllTexts target.old.symbols at.now.row.now }
+    ensures number { IfOk result (λ n. StandsAs target.new.symbols n
+        (inserted at.now.rule at.now.place (texts_of target.old.symbols at.now.row.now) out.now)) }
     ensures grows { Extends target.old.symbols target.new.symbols }
     ensures same { built target.new ≡ built target.old }
 {
     match out {
-        Out::Column(column) => Ok(row[*column as usize]),
+        Out::Column(column) => Ok(at.row[*column as usize]),
         Out::Literal(text) => target.number(Value::Const(text.copy()?)),
         Out::Skolem(variable) => target.number(Value::Null(NullId {
-            rule,
+            rule: at.rule,
             var: *variable,
-            row: place,
+            row: at.place,
         })),
     }
 }
@@ -55,23 +58,21 @@ fn number_of(
 // Puts the numbers of what an insert makes of a place in the buffer.
 fn fill(
     cells: &[Out],
-    rule: u32,
-    place: u32,
-    row: &[u32],
+    at: &RulePlace<'_>,
     buffer: &mut Vec<u32>,
     target: &mut Builder,
 ) -> Result<(), AllocError>
-    requires stand { Each cells.now (OutStands (length row.now)) }
-    requires texts { AllTexts target.old.symbols row.now }
+    requires stand { Each cells.now (OutStands (length at.now.row.now)) }
+    requires texts { AllTexts target.old.symbols at.now.row.now }
     ensures below { OnOk result (NumbersBelow (length target.new.symbols) buffer.new.items) }
     ensures shown { OnOk result (shown_row target.new.symbols buffer.new.items
-        ≡ map (inserted rule place (texts_of target.old.symbols row.now)) cells.now) }
+        ≡ map (inserted at.now.rule at.now.place (texts_of target.old.symbols at.now.row.now)) cells.now) }
     ensures grows { Extends target.old.symbols target.new.symbols }
     ensures same { built target.new ≡ built target.old }
 {
     buffer.clear();
     for cell in cells {
-        buffer.push(number_of(cell, rule, place, row, target)?)?;
+        buffer.push(number_of(cell, at, target)?)?;
     }
     Ok(())
 }
@@ -101,14 +102,12 @@ fn insert_places(
 {
     let mut buffer = Vec::new(alloc);
     for place in at.places {
-        fill(
-            cells,
-            at.rule,
-            *place,
-            at.rows.row(*place),
-            &mut buffer,
-            target,
-        )?;
+        let one = RulePlace {
+            rule: at.rule,
+            place: *place,
+            row: at.rows.row(*place),
+        };
+        fill(cells, &one, &mut buffer, target)?;
         let count = target.count(table);
         if count == u32::MAX {
             return Err(no_number_left(u64::from(count)));

@@ -30,20 +30,25 @@ fn stands_for(symbols: &Symbols, number: u32, text: &Text) -> bool
     }
 }
 
+// Whether the test holds, if it reads the tuple's own columns alone.
+fn is_met_alone(symbols: &Symbols, row: &[u32], test: &Test) -> bool
+    requires texts { AllTexts symbols.now row.now }
+    requires stands { (width : ℕ) × TestStands (length row.now) width test.now }
+    ensures { IsTrue result ↔ HoldsAlone (texts_of symbols.now row.now) test.now }
+{
+    match test {
+        Test::Literal { own, text } => stands_for(symbols, row[*own as usize], text),
+        _ => true,
+    }
+}
+
 // Whether the tests that read the tuple's own columns alone hold.
 fn holds_alone(symbols: &Symbols, row: &[u32], tests: &[Test]) -> bool
     requires texts { AllTexts symbols.now row.now }
     requires stand { (width : ℕ) × Each tests.now (TestStands (length row.now) width) }
     ensures { IsTrue result ↔ Each tests.now (HoldsAlone (texts_of symbols.now row.now)) }
 {
-    for test in tests {
-        if let Test::Literal { own, text } = test {
-            if !stands_for(symbols, row[*own as usize], text) {
-                return false;
-            }
-        }
-    }
-    true
+    tests.iter().all(|test| is_met_alone(symbols, row, test))
 }
 
 // How partners are looked up: the tests, the columns of a tuple's own that they compare, and the keys of the others.
@@ -82,18 +87,21 @@ impl<'a> Lookup<'a> {
 fn left_by_part(
     alloc: Global,
     places: &[u32],
-    own: &Rows,
-    other: &Rows,
-    tests: &[Test],
-    symbols: &Symbols,
+    part: &Unless,
+    of: &RuleTables<'_>,
 ) -> Result<Vec<u32>, AllocError>
-    requires places { Each places.now (λ k. k < length own.now.rows) }
-    requires texts { Each own.now.rows (AllTexts symbols.now) × Each other.now.rows (AllTexts symbols.now) }
-    requires stand { Each tests.now (TestStands own.now.width other.now.width) }
-    ensures { IfOk result (λ v. KeepsPlaces (LacksPartner symbols.now own.now.rows other.now.rows tests.now) places.now v.items) }
+    requires places { Each places.now (λ k. k < length (numbers_of_table of.now.tables.now of.now.rule).rows) }
+    requires stands { PartStands of.now.tables.now of.now.rule part.now }
+    ensures { IfOk result (λ v. KeepsPlaces (LacksPartner of.now.symbols.now
+        (numbers_of_table of.now.tables.now of.now.rule).rows
+        (numbers_of_table of.now.tables.now part.now.rule).rows part.now.tests) places.now v.items) }
 {
     // The call tells that no value has two numbers.
-    let _few = symbols.len();
+    prove!(of.symbols.len() <= u32::MAX as u64);
+    let tables = of.tables;
+    let own = &tables[of.rule as usize];
+    let other = &tables[part.rule as usize];
+    let tests = part.tests.items();
     let keys = keys_of(alloc, other, &columns_of_other(alloc, tests)?)?;
     let columns = columns_of_own(alloc, tests)?;
     let lookup = Lookup {
@@ -105,7 +113,7 @@ fn left_by_part(
     let mut buffer = Vec::new(alloc);
     for place in places {
         let row = own.row(*place);
-        if !lookup.has_partner(symbols, row, &mut buffer)? {
+        if !lookup.has_partner(of.symbols, row, &mut buffer)? {
             left.push(*place)?;
         }
     }
@@ -124,12 +132,9 @@ fn left_by_parts(
     ensures { IfOk result (λ v.
         KeepsPlaces (LacksPartners of.now.symbols.now of.now.tables.now of.now.rule unless.now) places.items v.items) }
 {
-    let tables = of.tables;
-    let own = &tables[of.rule as usize];
     let mut left = places;
     for part in unless {
-        let other = &tables[part.rule as usize];
-        left = left_by_part(alloc, &left, own, other, part.tests.items(), of.symbols)?;
+        left = left_by_part(alloc, &left, part, of)?;
     }
     Ok(left)
 }

@@ -22,6 +22,7 @@ mod names;
 mod query;
 mod rule_tables;
 mod run;
+mod selection;
 mod source;
 mod variables;
 

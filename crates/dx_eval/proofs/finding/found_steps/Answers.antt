@@ -18,7 +18,7 @@ pub loop-step-init : goal.loop-step-init
 loop-step-init g c =
     let N = table_names_of c.args.source.now.schema.now in
     let I = facts (shown_tables c.args.source.now.rows.now.symbols c.args.source.now.rows.now.tables) in
-    start N (call_named g.M.Meaning.apply (offered c.args.source.now.host.now)) I c.args.steps.now c.args.source.now.rows.now.symbols c.in_ok-symbols.symbols c.new-tables.result.items c.args.limit c.in_ok-symbols.ensures c.new-tables.ensures.items c.len-few.ensures.fit.apart
+    start N (call_named g.M.Meaning.apply (offered c.args.source.now.host.now)) I c.args.steps.now c.args.source.now.rows.now.symbols c.in_ok-symbols.symbols c.new-tables.result.items c.args.limit c.in_ok-symbols.ensures c.new-tables.ensures.items c.len.ensures.fit.apart
 
 pub matched_rows-requires-clause-fit : goal.matched_rows-requires-clause-fit
 matched_rows-requires-clause-fit g c =

@@ -10,7 +10,7 @@ use Rattle.dx_eval.proofs.inserting.fill.Given as goal
 abbrev pub invariant-loop-cell : goal.invariant-loop-cell
 invariant-loop-cell l = record {
   below : NumbersBelow (length l.target.symbols) l.buffer.items;
-  shown : shown_row l.target.symbols l.buffer.items ≡ map (inserted l.rule l.place (texts_of l.fn.target.symbols l.row)) (take l.cell-index l.cells);
+  shown : shown_row l.target.symbols l.buffer.items ≡ map (inserted l.at.rule l.at.place (texts_of l.fn.target.symbols l.at.row.now)) (take l.cell-index l.cells);
   grows : Extends l.fn.target.symbols l.target.symbols;
   same : built l.target ≡ built l.fn.target;
 }

@@ -5,4 +5,4 @@ use Rattle.dx_eval.specs.Variables.{variable_of}
 use Rattle.dx_eval.proofs.query.arguments.Given as goal
 
 abbrev pub invariant-loop-cell : goal.invariant-loop-cell
-invariant-loop-cell l = l.args ≡ map (variable_of (table_names_of l.source) l.sources l.rows) (take l.cell-index l.cells)
+invariant-loop-cell l = l.args ≡ map (variable_of (table_names_of l.aliases.schema.now) l.aliases.sources.now l.aliases.rows.now) (take l.cell-index l.cells)

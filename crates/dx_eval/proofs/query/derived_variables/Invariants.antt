@@ -6,4 +6,4 @@ use Rattle.dx_eval.specs.Query.{derived_of_selects}
 use Rattle.dx_eval.proofs.query.derived_variables.Given as goal
 
 abbrev pub invariant-loop-one : goal.invariant-loop-one
-invariant-loop-one g l = l.derived.items ≡ derived_of_selects (offered l.host) (variable_of (table_names_of l.source) l.sources l.rows) (take l.one-index l.select)
+invariant-loop-one g l = l.derived.items ≡ derived_of_selects (offered l.host) (variable_of (table_names_of l.aliases.schema.now) l.aliases.sources.now l.aliases.rows.now) (take l.one-index l.select)

@@ -6,4 +6,4 @@ use Rattle.dx_eval.specs.Query.{alias_atom}
 use Rattle.dx_eval.proofs.query.premise_of.Given as goal
 
 abbrev pub invariant-loop-alias : goal.invariant-loop-alias
-invariant-loop-alias l = l.premise.items ≡ map (alias_atom (table_names_of l.source) l.sources l.rows) (below l.alias)
+invariant-loop-alias l = l.premise.items ≡ map (alias_atom (table_names_of l.aliases.schema.now) l.aliases.sources.now l.aliases.rows.now) (below l.alias)
