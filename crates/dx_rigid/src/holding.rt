@@ -20,12 +20,7 @@ fn is_marked(marks: &[bool], number: u32) -> bool
 pub(crate) fn row_holds_marked(row: &[u32], marks: &[bool]) -> bool
     ensures { OnTrue result (EachIndex row.now (λ c. slice_index_or marks.now (slice_index row.now c) false ≡ true)) }
 {
-    for number in row {
-        if !is_marked(marks, *number) {
-            return false;
-        }
-    }
-    true
+    row.iter().all(|number| is_marked(marks, *number))
 }
 
 // Whether each number in a table is marked.
@@ -35,12 +30,7 @@ fn table_holds_marked(numbers: &Numbers<'_>, table: u32, marks: &[bool]) -> bool
         → EachIndex (numbers_at (number_rows numbers.now table) p)
         (λ c. slice_index_or marks.now (slice_index (numbers_at (number_rows numbers.now table) p) c) false ≡ true)) }
 {
-    for place in 0..numbers.count(table) {
-        if !row_holds_marked(numbers.row(table, place), marks) {
-            return false;
-        }
-    }
-    true
+    (0..numbers.count(table)).all(|place| row_holds_marked(numbers.row(table, place), marks))
 }
 
 /// Whether each number in a row is marked.
@@ -49,10 +39,5 @@ pub(crate) fn hold_marked(numbers: &Numbers<'_>, marks: &[bool]) -> bool
         → EachIndex (numbers_at (number_rows numbers.now t) p)
         (λ c. slice_index_or marks.now (slice_index (numbers_at (number_rows numbers.now t) p) c) false ≡ true)) }
 {
-    for table in 0..numbers.tables() {
-        if !table_holds_marked(numbers, table, marks) {
-            return false;
-        }
-    }
-    true
+    (0..numbers.tables()).all(|table| table_holds_marked(numbers, table, marks))
 }

@@ -8,5 +8,5 @@ use Rattle.dx_rigid.proofs.rigid.rigid_part.Goals as goal
 pub returns-then-hold_marked : goal.returns-then-hold_marked
 returns-then-hold_marked c = λ n m.
     let s = c.args.numbers.now in
-    each_value s c.len-fit.ensures.fit (IsRigidValue (facts (shown_tables s.symbols s.tables)))
+    each_value s c.len.ensures.fit (IsRigidValue (facts (shown_tables s.symbols s.tables)))
     (λ t p h k j l. c.requires _ (c.if-hold_marked.ensures t p h k j l)) (Null n) m
