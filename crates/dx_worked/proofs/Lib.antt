@@ -9,3 +9,4 @@ mod Judging
 mod Named
 mod Missed
 mod Said
+mod Exchanged

@@ -1,3 +1,4 @@
 pub mod Reading
 pub mod Judged
 pub mod Answered
+pub mod Exchanged

@@ -1,5 +1,6 @@
 // Worked examples of what the program reads, says and puts. The definitions alone carry them: no body computes anything.
 ghost use Rattle.dx_worked.specs.Answered.{TwoArePlanned, TwoAreSaid};
+ghost use Rattle.dx_worked.specs.Exchanged.{CoreScriptIsPlanned, CoreScriptIsWritten, DocumentIsPlanned, DocumentIsWritten};
 ghost use Rattle.dx_worked.specs.Judged.{RuleIsMissed, TargetSetIsNamed, TargetSetIsSaid};
 ghost use Rattle.dx_worked.specs.Reading.{NamedAreRead};
 
@@ -23,4 +24,16 @@ pub fn a_verdict_names_a_target_set()
 pub fn two_answers_are_counted()
     ensures planned { TwoArePlanned }
     ensures said { TwoAreSaid }
+{}
+
+/// In core mode the script that is put leaves out the persons that another rule makes with their telephone.
+pub fn core_mode_has_its_own_script()
+    ensures planned { CoreScriptIsPlanned }
+    ensures written { CoreScriptIsWritten }
+{}
+
+/// With `nested` a document of units with their staff is put after the tables, and without it there is none.
+pub fn nested_puts_a_document()
+    ensures planned { DocumentIsPlanned }
+    ensures written { DocumentIsWritten }
 {}
