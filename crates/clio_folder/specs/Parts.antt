@@ -8,5 +8,5 @@ abbrev pub last_name : List ℕ → List ℕ
 last_name path = unwrap_or (option_map (λ split. split.1) (rsplit_once slash path)) path
 
 -- the name of a part: no file of a target begins with a dot
-abbrev pub IsPart : List ℕ → Type 0
-IsPart name = (take 6 name ≡ codes ".clio-") × (drop (length name - 5) name ≡ codes ".part")
+abbrev pub IsPartName : List ℕ → Type 0
+IsPartName name = (take 6 name ≡ codes ".clio-") × (drop (length name - 5) name ≡ codes ".part")

@@ -3,7 +3,7 @@ ghost use Rattle.std.specs.Prelude.{◌≡◌, IfOk, IfSome};
 ghost use Rattle.std.specs.Bool.{OnTrue};
 ghost use Rattle.std.specs.Path.{path_bytes};
 ghost use Rattle.std.specs.Fs.{dir_entry_path};
-ghost use Rattle.clio_folder.specs.Parts.{IsPart, last_name};
+ghost use Rattle.clio_folder.specs.Parts.{IsPartName, last_name};
 
 use std::fs::DirEntry;
 use std::path::Path;
@@ -14,7 +14,7 @@ use std::{fs, io};
 #[derive(Drop)]
 struct LeftOver<'a> {
     path: Path<'a>,
-    ghost told: { IsPart (last_name (path_bytes path)) },
+    ghost told: { IsPartName (last_name (path_bytes path)) },
 }
 
 impl<'a> LeftOver<'a> {
@@ -26,7 +26,7 @@ impl<'a> LeftOver<'a> {
 
 // The number of the process that wrote the part of this name, if it is the name of one.
 fn process_of_part(name: &str) -> Option<u32>
-    ensures { IfSome result (λ _. IsPart name.now) }
+    ensures { IfSome result (λ _. IsPartName name.now) }
 {
     let (number, time) = name.strip_prefix(".clio-")?.split_once('-')?;
     if !time.ends_with(".part") {
@@ -39,7 +39,7 @@ fn process_of_part(name: &str) -> Option<u32>
 // gone. If the processes can't be seen, each is taken for gone; a run whose part is taken away fails at the move,
 // and nothing is mixed.
 fn is_left_over<R: Files + AllocGlobal>(rt: &R, process: u32, name: &str) -> io::Result<bool>
-    ensures { IfOk result (λ b. OnTrue b (IsPart name.now)) }
+    ensures { IfOk result (λ b. OnTrue b (IsPartName name.now)) }
 {
     let Some(number) = process_of_part(name) else {
         return Ok(false);
