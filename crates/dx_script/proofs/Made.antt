@@ -5,7 +5,6 @@ use Rattle.std.proofs.lemmas.Bool.{false≢true, cases_lt}
 use Rattle.std.proofs.lemmas.List.{drop_more, drop_all, get_or-map, length-map}
 use Rattle.std.proofs.lemmas.Simd.{map-map}
 use Rattle.dx_base.specs.Members.{◌∈◌, here, there}
-use Rattle.dx_base.proofs.Members.{in_right, from_append}
 use Rattle.dx_base.proofs.Lists.{cut_at}
 use Rattle.dx_base.specs.Texts.{Text}
 use Rattle.dx_schema.specs.Forest.{Forest}
@@ -23,27 +22,6 @@ use Rattle.dx_script.proofs.NameFacts.{no_table, table_number, other_text}
 pub made_next : {X : Type 0} (f : Step → List X) (steps : List Step) (i : ℕ) (s : Step) → i < length steps → s ≡ get_or steps i s → flat_map f (drop i steps) ≡ f s ++ flat_map f (drop (i + 1) steps)
 made_next f steps i s lt is = rw (cut_at steps i s lt is) refl
 
--- a step that doesn't make it leaves it to the rest
-pub made_past : {X : Type 0} {W : Type 0} (f : Step → List X) (x : X) (steps : List Step) (i : ℕ) (s : Step) → i < length steps → s ≡ get_or steps i s
-    → ¬ (x ∈ f s) → (W ↔ (x ∈ flat_map f (drop i steps))) → (W ↔ (x ∈ flat_map f (drop (i + 1) steps)))
-made_past f x steps i s lt is lacks inv = (
-  (λ m. elim (from_append (f s) (rw (made_next f steps i s lt is) at (inv.0 m))) [ inl l ↦ absurd (lacks l) | inr r ↦ r ]),
-  (λ m. inv.1 (rw (made_next f steps i s lt is) (in_right (f s) m))),
-)
-
--- a step that makes it
-pub made_here : {X : Type 0} {W : Type 0} (f : Step → List X) (x : X) (steps : List Step) (i : ℕ) (s : Step) (rest : List X) → i < length steps → s ≡ get_or steps i s
-    → f s ≡ x ∷ rest → (W ↔ (x ∈ flat_map f (drop i steps))) → (IsTrue true ↔ W)
-made_here f x steps i s rest lt is e inv = ((λ _. inv.1 (rw (made_next f steps i s lt is, e) (here refl))), (λ _. refl))
-
--- no step makes it
-pub made_nowhere : {X : Type 0} {W : Type 0} (f : Step → List X) (x : X) (steps : List Step) (i : ℕ) → length steps ≤ i
-    → (W ↔ (x ∈ flat_map f (drop i steps))) → (IsTrue false ↔ W)
-made_nowhere {X} {W} f x steps i past inv = ((λ t. absurd (false≢true t)), (λ w. none (rw (drop_all i steps past) at (inv.0 w))))
-  where
-    none : x ∈ flat_map f [] → false ≡ true
-    none m = elim m [ ]
-
 -- ---- keep tables
 
 pub no_keep : (s : Step) (n : ℕ) → ((r : ℕ) (u : _) → ¬ (s ≡ KeepRows r u)) → ¬ (n ∈ kept_in s)
@@ -51,9 +29,6 @@ no_keep (Create table columns) n h m = elim m [ ]
 no_keep (MatchRows r select sources equal) n h m = elim m [ ]
 no_keep (KeepRows r unless) n h m = absurd (h r unless refl)
 no_keep (InsertRows table r kept cells) n h m = elim m [ ]
-
-pub other_keep : (s : Step) (r n : ℕ) (u : _) → s ≡ KeepRows r u → ¬ (r ≡ n) → ¬ (n ∈ kept_in s)
-other_keep s r n u e d m = elim (rw e at m) [ here q ↦ absurd (d q) | there k ↦ elim k [ ] ]
 
 -- ---- created tables
 
@@ -73,9 +48,6 @@ no_create (Create table columns) n h m = absurd (h table columns refl)
 no_create (MatchRows r select sources equal) n h m = elim m [ ]
 no_create (KeepRows r unless) n h m = elim m [ ]
 no_create (InsertRows table r kept cells) n h m = elim m [ ]
-
-pub other_create : (s : Step) (t n : Text) (u : List Text) → s ≡ Create t u → ¬ (t ≡ n) → ¬ (n ∈ created_names s)
-other_create s t n u e d m = elim (rw e at m) [ here q ↦ absurd (d q) | there k ↦ elim k [ ] ]
 
 -- ---- tables by their names
 

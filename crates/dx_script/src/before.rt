@@ -2,7 +2,7 @@
 ghost use Rattle.std.specs.Prelude.{◌≡◌, ◌↔◌, ◌<◌, ◌≤◌, IsTrue, List, MatchOption, length, map, slice_index_or};
 ghost use Rattle.dx_base.specs.Members.{◌∈◌};
 ghost use Rattle.dx_base.specs.Texts.{Text as AnyText};
-ghost use Rattle.dx_script.specs.Fits.{created, rules_with_keep, match_widths};
+ghost use Rattle.dx_script.specs.Fits.{created, created_in, kept_in, rules_with_keep, match_widths};
 
 use crate::form::Step;
 use dx_base::Text;
@@ -37,32 +37,38 @@ pub(crate) fn match_width(steps: &[Step], rule: u32) -> Option<u64>
     None
 }
 
+// Whether the step makes the keep table of a rule.
+fn keeps(step: &Step, number: u32) -> bool
+    ensures { IsTrue result ↔ (number ∈ kept_in step.now) }
+{
+    match step {
+        Step::KeepRows { rule, .. } => *rule == number,
+        _ => false,
+    }
+}
+
 /// Whether the steps make the keep table of a rule.
 pub(crate) fn is_kept(steps: &[Step], number: u32) -> bool
     ensures { IsTrue result ↔ (number ∈ rules_with_keep steps.now) }
 {
-    for step in steps {
-        if let Step::KeepRows { rule, .. } = step {
-            if *rule == number {
-                return true;
-            }
-        }
+    steps.iter().any(|step| keeps(step, number))
+}
+
+// Whether the step creates a table of this name.
+fn creates(step: &Step, name: &Text) -> bool
+    ensures { IsTrue result ↔ (name.now ∈ map (λ (t : AnyText × List AnyText). t.0) (created_in step.now)) }
+{
+    match step {
+        Step::Create { table, .. } => table.is(name),
+        _ => false,
     }
-    false
 }
 
 /// Whether the steps create a table of this name.
 pub(crate) fn is_created(steps: &[Step], name: &Text) -> bool
     ensures { IsTrue result ↔ (name.now ∈ map (λ (t : AnyText × List AnyText). t.0) (created steps.now)) }
 {
-    for step in steps {
-        if let Step::Create { table, .. } = step {
-            if table.is(name) {
-                return true;
-            }
-        }
-    }
-    false
+    steps.iter().any(|step| creates(step, name))
 }
 
 /// The steps up to the last that makes a keep table.

@@ -1,25 +1,18 @@
-use Rattle.std.proofs.Common.{[], refl}
-use Rattle.std.proofs.lemmas.Bool.{false≢true}
-use Rattle.std.proofs.Common.{sym, ◌∙◌}
-use Rattle.dx_base.proofs.Members.{same_equal}
-use Rattle.dx_script.proofs.Made.{created_names, made_here, made_nowhere, made_past, names_created, no_create, other_create}
+use Rattle.std.proofs.Common.{rules, tests}
+use Rattle.std.proofs.lemmas.Iterator.{cases_from_any, YieldsList-from_slice}
+use Rattle.dx_base.specs.Members.{◌∈◌}
+use Rattle.dx_base.proofs.Asked.{any_tells}
+use Rattle.dx_base.proofs.Members.{from_flat_map, in_flat_map, same_equal}
+use Rattle.dx_script.specs.declared.form.Step.{Step}
+use Rattle.dx_script.proofs.Made.{created_names, names_created}
 use Rattle.dx_script.proofs.before.is_created.Goals as goal
-use Rattle.dx_script.proofs.before.is_created.Goals.{in-Create+else-is, in_default}
-
-pub loop-step-init : goal.loop-step-init
-loop-step-init c = let s = same_equal (names_created c.args.steps.now) in (s.0 c.args.name.now, s.1 c.args.name.now)
-
-pub returns-then-is : goal.returns-then-is
-returns-then-is c = made_here created_names c.args.name.now c.args.steps.now c.loop-step.step-index c.step-item.result [] c.loop-step-test.true c.step-item.is (rw (c.in-Create.is, c.is.ensures.0 c.if-is.true) refl) c.loop-step.invariant
-
-pub loop-step-preserved : goal.loop-step-preserved
-loop-step-preserved c =
-    made_past created_names c.args.name.now c.args.steps.now c.loop-step.step-index c.step-item.result c.loop-step-test.true c.step-item.is
-    (elim c.match-step.branch [
-      | in-Create+else-is w ↦ other_create c.step-item.result w.in-Create.table c.args.name.now w.in-Create.columns w.in-Create.is (λ e. false≢true (sym w.if-is.false ∙ w.is.ensures.1 e))
-      | in_default w ↦ no_create c.step-item.result c.args.name.now w.in_default.not-Create
-    ])
-    c.loop-step.invariant
 
 pub returns : goal.returns
-returns c = made_nowhere created_names c.args.name.now c.args.steps.now c.loop-step.step-index c.loop-step-test.false c.loop-step.invariant
+returns c =
+    let steps = c.args.steps.now in
+    let name = c.args.name.now in
+    let P : Step → Type 0 = λ s. name ∈ created_names s in
+    let by_call = cases_from_any _ _ _ P (λ s. ¬ (P s)) c.any.ensures.ran (YieldsList-from_slice steps cc) (λ x q k. search (rules, tests)) (λ x q k. search (rules, tests)) in
+    let t = any_tells P (λ s. ¬ (P s)) _ steps (λ z p n. n p) by_call in
+    let same = same_equal (names_created steps) in
+    ((λ r. let s = t.0 r in same.1 name (in_flat_map created_names s.1 s.2)), (λ m. t.1 (from_flat_map created_names steps (same.0 name m))))
