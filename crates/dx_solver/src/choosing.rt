@@ -33,25 +33,12 @@ fn choices_of(domains: &[Domain], term: Term) -> u64
     }
 }
 
-// How many numbers the term in a column can still have.
-fn choices_at(domains: &[Domain], terms: &[Term], column: usize) -> u64
-    requires { column < length terms.now }
-    ensures { result ≡ choice_count domains.now (term_at terms.now column) }
-{
-    choices_of(domains, terms[column])
-}
-
 // The first column of a term that has two numbers or more left.
 fn free_column(domains: &[Domain], terms: &[Term]) -> Option<usize>
     ensures { MatchOption result (Each terms.now (λ t. choice_count domains.now t ≤ 1))
         (λ c. (c < length terms.now) × (1 < choice_count domains.now (term_at terms.now c))) }
 {
-    for column in 0..terms.len() {
-        if choices_at(domains, terms, column) > 1 {
-            return Some(column);
-        }
-    }
-    None
+    terms.iter().position(|term| choices_of(domains, *term) > 1)
 }
 
 // What it costs to try a term: the numbers that it can still have, over how often an atom with it could be no row.

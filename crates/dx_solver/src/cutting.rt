@@ -46,7 +46,6 @@ fn cut_at(
     domains: &mut Vec<Domain>,
     position: &Position<'_>,
     places: &[u32],
-    longest: usize,
 ) -> Result<bool, AllocError>
     requires fits { FitsAtom question.now.numbers.now.tables (length domains.old.items) position.now.atom.now }
     requires within { Each places.now (λ p. p < length
@@ -57,6 +56,7 @@ fn cut_at(
     ensures lighter { IfOk result (λ _. weight (2 ^ 32) domains.new.items ≤ weight (2 ^ 32) domains.old.items) }
 {
     let variable = position.variable;
+    let longest = question.longest();
     if !is_wanted(&domains[variable as usize], places.len(), longest) {
         return Ok(false);
     }
@@ -80,14 +80,16 @@ pub(crate) fn is_known(domains: &[Domain], term: Term) -> bool {
     }
 }
 
+/// Whether one number is left of one of the terms.
+pub(crate) fn has_known(domains: &[Domain], terms: &[Term]) -> bool {
+    terms.iter().any(|term| is_known(domains, *term))
+}
+
 // Whether some variable has a list of numbers.
 fn is_listed(domains: &[Domain]) -> bool {
-    for domain in domains {
-        if let Domain::Many(_) = domain {
-            return true;
-        }
-    }
-    false
+    domains
+        .iter()
+        .any(|domain| matches!(domain, Domain::Many(_)))
 }
 
 // Whether the atom waits: to find its rows takes a look at each row of a large table, and some variable has a list, so that a
@@ -95,15 +97,9 @@ fn is_listed(domains: &[Domain]) -> bool {
 fn waits(question: &Question<'_, '_>, domains: &[Domain], atom: &PatternAtom) -> bool
     requires { atom.now.table < length question.now.numbers.now.tables }
 {
-    if question.numbers.count(atom.table) <= NARROW {
-        return false;
-    }
-    for term in atom.terms.items() {
-        if is_known(domains, *term) {
-            return false;
-        }
-    }
-    is_listed(domains)
+    question.numbers.count(atom.table) > NARROW
+        && !has_known(domains, atom.terms.items())
+        && is_listed(domains)
 }
 
 /// Cuts the domains of an atom's variables to the numbers that they have in rows that the atom can be. Says whether there is
@@ -117,7 +113,6 @@ pub(crate) fn cut(
     question: &Question<'_, '_>,
     domains: &mut Vec<Domain>,
     atom: &PatternAtom,
-    longest: usize,
     changed: &mut Vec<u32>,
 ) -> Result<bool, AllocError>
     requires { FitsAtom question.now.numbers.now.tables (length domains.old.items) atom.now }
@@ -136,7 +131,7 @@ pub(crate) fn cut(
     }
     for column in 0..question.numbers.width(atom.table) {
         if let Some(position) = Position::of(atom, column as usize) {
-            if cut_at(alloc, question, domains, &position, rows, longest)? {
+            if cut_at(alloc, question, domains, &position, rows)? {
                 changed.push(position.variable)?;
             }
         }

@@ -167,7 +167,6 @@ fn place_left(
     }
     progress.mark(place, true);
     let atom = &atoms[place];
-    let count = question.numbers.count(atom.table);
     let mut next = 0;
     while let Some(at) = next_candidate(question, domains, atom, next) {
         let row = question.numbers.row(atom.table, at);
@@ -177,9 +176,9 @@ fn place_left(
             Found::Nothing => {}
             other => return Ok(other),
         }
+        prove!(at < question.numbers.count(atom.table));
         next = at + 1;
     }
-    let _ = count;
     progress.mark(place, false);
     Ok(Found::Nothing)
 }

@@ -47,12 +47,10 @@ fn is_row(xs: &[u32], terms: &[Term], row: &[u32]) -> bool
     requires { length terms.now ≡ length row.now }
     ensures { IsTrue result ↔ (row.now ≡ map (number_under (answered xs.now)) terms.now) }
 {
-    for column in 0..row.len() {
-        if number_at(xs, terms[column]) != row[column] {
-            return false;
-        }
-    }
-    true
+    terms
+        .iter()
+        .zip(row)
+        .all(|(term, number)| number_at(xs, *term) == *number)
 }
 
 // Whether the row at a place is not taken out, and is what the atom becomes.
@@ -91,16 +89,15 @@ fn stands_among(question: &Question<'_, '_>, xs: &[u32], atom: &PatternAtom) -> 
     ensures { IsTrue result ↔ HasImageRow question.now.numbers.now.tables question.now.taken.now (answered xs.now) atom.now }
 {
     let numbers = question.numbers;
-    let count = numbers.count(atom.table);
     let key = first_key(xs, atom.terms.items());
     let mut next = 0;
     while let Some(place) = next_place(numbers, atom.table, key, next) {
         if is_image(question, xs, atom, place) {
             return true;
         }
+        prove!(place < numbers.count(atom.table));
         next = place + 1;
     }
-    let _ = count;
     false
 }
 

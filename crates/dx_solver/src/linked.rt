@@ -59,17 +59,31 @@ fn heap_of(left: Left) -> usize {
     left.known.min(HEAPS - 2)
 }
 
-// The last atom of a heap that is not in the order yet.
-fn pop_left(heap: &mut Vec<usize>, left: &[Left]) -> Option<usize> {
-    for _ in 0..heap.len() {
-        let place = heap.pop()?;
-        if let Some(atom) = left.get(place) {
-            if !atom.is_placed {
-                return Some(place);
-            }
-        }
+// Whether the atom at a place is not in the order yet.
+fn is_left(left: &[Left], place: usize) -> bool {
+    match left.get(place) {
+        None => false,
+        Some(atom) => !atom.is_placed,
     }
-    None
+}
+
+// The last atom of a heap that is not in the order yet. It leaves the heap with those above it.
+fn pop_left(heap: &mut Vec<usize>, left: &[Left]) -> Option<usize> {
+    let above = heap
+        .iter()
+        .rev()
+        .position(|place| is_left(left, *place))
+        .unwrap_or(heap.len());
+    heap.truncate(heap.len().saturating_sub(above));
+    heap.pop()
+}
+
+/// In how many atoms a variable stands.
+pub(crate) fn count_of(atoms_of: &[Vec<usize>], variable: u32) -> usize {
+    match atoms_of.get(variable as usize) {
+        None => 0,
+        Some(atoms) => atoms.len(),
+    }
 }
 
 // Lists, all empty.
@@ -134,14 +148,6 @@ impl Linked {
         self.atoms_of.get_mut(variable as usize)?.pop()
     }
 
-    // In how many atoms a variable stands.
-    fn count_of(&self, variable: u32) -> usize {
-        match self.atoms_of.get(variable as usize) {
-            None => 0,
-            Some(atoms) => atoms.len(),
-        }
-    }
-
     // A variable is met: its number is known in all its atoms.
     fn meet(&mut self, variable: u32) -> Result<(), AllocError> {
         if let Some(true) = self.is_met.get(variable as usize) {
@@ -150,7 +156,7 @@ impl Linked {
         if let Some(met) = self.is_met.get_mut(variable as usize) {
             *met = true;
         }
-        for _ in 0..self.count_of(variable) {
+        for _ in 0..count_of(&self.atoms_of, variable) {
             if let Some(place) = self.pop_of(variable) {
                 self.raise(place)?;
             }
@@ -160,23 +166,19 @@ impl Linked {
 
     // An atom of the highest heap that has one that is left.
     fn next_linked(&mut self) -> Option<usize> {
-        for heap in self.heaps.iter_mut().rev() {
-            if let Some(place) = pop_left(heap, &self.left) {
-                return Some(place);
-            }
-        }
-        None
+        let left = &self.left;
+        self.heaps
+            .iter_mut()
+            .rev()
+            .find_map(|heap| pop_left(heap, left))
     }
 
     // The first atom that is left.
     fn next_first(&mut self) -> Option<usize> {
-        for place in self.first..self.left.len() {
-            if !self.left[place].is_placed {
-                self.first = place;
-                return Some(place);
-            }
-        }
-        None
+        let left = &self.left;
+        let place = (self.first..left.len()).find(|place| is_left(left, *place))?;
+        self.first = place;
+        Some(place)
     }
 
     // The atom that comes next, if one is left.

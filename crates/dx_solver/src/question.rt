@@ -11,3 +11,13 @@ pub(crate) struct Question<'a, 'n> {
     pub atoms: &'a [PatternAtom],
     pub known: &'a [Option<u32>],
 }
+
+/// How many numbers all lists together may have.
+const ROOM: usize = 4_000_000;
+
+impl Question<'_, '_> {
+    /// How long the list of a variable may be that had none.
+    pub(crate) fn longest(&self) -> usize {
+        ROOM / self.known.len().max(1)
+    }
+}

@@ -217,15 +217,14 @@ pub(crate) fn next_candidate(
     let terms = atom.terms.items();
     let width = numbers.width(atom.table);
     let key = key_of(numbers, atom.table, domains, terms, width);
-    let count = numbers.count(atom.table);
     let mut next = from;
     while let Some(place) = next_place(numbers, atom.table, key, next) {
         if is_candidate(question, domains, atom, place) {
             return Some(place);
         }
+        prove!(place < numbers.count(atom.table));
         next = place + 1;
     }
-    let _ = count;
     None
 }
 
@@ -247,14 +246,13 @@ pub(crate) fn candidates(
         (λ p. p < length (numbers_of_table question.now.numbers.now.tables atom.now.table).rows)) }
     ensures few { IfOk result (λ places. length places.items < 2 ^ 32) }
 {
-    let count = question.numbers.count(atom.table);
     let mut places = Vec::new(alloc);
     let mut next = 0;
+    prove!(next <= question.numbers.count(atom.table));
     while let Some(place) = next_candidate(question, domains, atom, next) {
         places.push(place)?;
         next = place + 1;
     }
-    let _ = count;
     Ok(places)
 }
 

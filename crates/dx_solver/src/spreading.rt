@@ -5,15 +5,15 @@ ghost use Rattle.dx_solver.specs.Domains.{Keeps, weight};
 ghost use Rattle.dx_solver.specs.Questions.{FitsAtom, HasImageRow};
 
 use crate::atom::{PatternAtom, Term};
-use crate::cutting::{cut, is_known};
+use crate::cutting::{cut, has_known};
 use crate::domain::Domain;
+use crate::linked::count_of;
 use crate::question::Question;
 use std::alloc::{AllocError, Global};
 use std::mem::swap;
 
-/// A work list: atoms that are to be looked at again, those that came last after all others; for each variable the atoms that it
-/// stands in and how often one of them could be no row; and how long lists may be that are begun. All of it is a matter of time
-/// and memory alone.
+/// A work list: atoms that are to be looked at again, those that came last after all others; the one that is looked at now; and
+/// for each variable the atoms that it stands in and how often one of them could be no row. All of it is a matter of time alone.
 #[derive(Drop)]
 pub(crate) struct Agenda {
     waiting: Vec<usize>,
@@ -21,11 +21,8 @@ pub(crate) struct Agenda {
     is_waiting: Vec<bool>,
     atoms_of: Vec<Vec<usize>>,
     failures: Vec<u32>,
-    longest: usize,
+    current: usize,
 }
-
-/// How many numbers all lists together may have.
-const ROOM: usize = 4_000_000;
 
 impl Agenda {
     /// Nothing to be done yet.
@@ -51,7 +48,7 @@ impl Agenda {
             is_waiting: vec![in alloc; false; atoms.len()]?,
             atoms_of,
             failures: vec![in alloc; 0; variables]?,
-            longest: ROOM / variables.max(1),
+            current: 0,
         })
     }
 
@@ -68,7 +65,7 @@ impl Agenda {
 
     // The atoms of a variable.
     fn add_atoms_of(&mut self, variable: u32) -> Result<(), AllocError> {
-        for place in 0..self.count_of(variable) {
+        for place in 0..count_of(&self.atoms_of, variable) {
             if let Some(atom) = self.atom_of(variable, place) {
                 self.add(atom)?;
             }
@@ -76,24 +73,16 @@ impl Agenda {
         Ok(())
     }
 
-    // The atoms of a variable but one.
-    fn add_others_of(&mut self, variable: u32, one: usize) -> Result<(), AllocError> {
-        for place in 0..self.count_of(variable) {
+    // The atoms of a variable but the one that is looked at now.
+    fn add_others_of(&mut self, variable: u32) -> Result<(), AllocError> {
+        for place in 0..count_of(&self.atoms_of, variable) {
             if let Some(atom) = self.atom_of(variable, place) {
-                if atom != one {
+                if atom != self.current {
                     self.add(atom)?;
                 }
             }
         }
         Ok(())
-    }
-
-    // In how many atoms a variable stands.
-    fn count_of(&self, variable: u32) -> usize {
-        match self.atoms_of.get(variable as usize) {
-            None => 0,
-            Some(atoms) => atoms.len(),
-        }
     }
 
     // One of the atoms that a variable stands in.
@@ -167,18 +156,9 @@ impl Agenda {
         if let Some(waits) = self.is_waiting.get_mut(atom) {
             *waits = false;
         }
+        self.current = atom;
         Some(atom)
     }
-}
-
-// Whether one number is left of one of the terms.
-fn has_known(domains: &[Domain], terms: &[Term]) -> bool {
-    for term in terms {
-        if is_known(domains, *term) {
-            return true;
-        }
-    }
-    false
 }
 
 // Notes that the atom at a place has the variables among these terms.
@@ -204,7 +184,6 @@ fn spread_one(
     agenda: &mut Agenda,
     domains: &mut Vec<Domain>,
     atom: &PatternAtom,
-    place: usize,
 ) -> Result<bool, AllocError>
     requires { FitsAtom question.now.numbers.now.tables (length domains.old.items) atom.now }
     ensures kept { IfOk result (λ alive. (a : ℕ → ℕ) → Keeps domains.old.items a
@@ -213,9 +192,9 @@ fn spread_one(
     ensures lighter { IfOk result (λ _. weight (2 ^ 32) domains.new.items ≤ weight (2 ^ 32) domains.old.items) }
 {
     let mut changed = Vec::new(alloc);
-    let alive = cut(alloc, question, domains, atom, agenda.longest, &mut changed)?;
+    let alive = cut(alloc, question, domains, atom, &mut changed)?;
     for variable in &changed {
-        agenda.add_others_of(*variable, place)?;
+        agenda.add_others_of(*variable)?;
     }
     Ok(alive)
 }
@@ -248,7 +227,7 @@ pub(crate) fn spread(
         if place >= atoms.len() {
             return Ok(true);
         }
-        let alive = spread_one(alloc, question, agenda, domains, &atoms[place], place)?;
+        let alive = spread_one(alloc, question, agenda, domains, &atoms[place])?;
         if !alive {
             agenda.blame(atoms[place].terms.items());
             agenda.clear();

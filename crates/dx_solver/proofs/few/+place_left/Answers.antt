@@ -14,8 +14,8 @@ next_candidate-requires t c =
     subst (λ (n : ℕ). FitsAtom T n atom) (sym c.requires.many)
     (c.requires.fits atom (item_in atoms _ atom (omega arith) c.index-atoms-place.is))
 
-pub count-count-requires : goal.count-count-requires
-count-count-requires t c =
+pub count-requires : goal.count-requires
+count-requires t c =
     let atom = c.index-atoms-place.result in
     (c.requires.fits atom (item_in c.args.question.now.atoms.now _ atom (omega arith) c.index-atoms-place.is)).table
 
@@ -35,7 +35,7 @@ loop-at-preserved t c =
       none = λ a k s. place_more (IsImageRow T out a atom) (λ q. ⊥) c.loop-at.next c.in-Some-next_candidate.at (c.loop-at.invariant.none a k s)
           (c.in-Some-next_candidate.ensures.2 a k)
           (λ i. nothing a (c.in_ok-below.ensures.kept a k (rw (c.row-row.ensures.row, c.items.ensures) i.row)) s);
-      next = omega (arith, c.in-Some-next_candidate.ensures.1, c.count-count.ensures);
+      next = omega (arith, c.in-Some-next_candidate.ensures.1);
     }
 
 pub returns : goal.returns

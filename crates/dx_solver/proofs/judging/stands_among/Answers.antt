@@ -19,7 +19,7 @@ loop-place-preserved c =
       none = no_more (IsImageRow T out xs atom) (HasKey (numbers_of_table T atom.table).rows key) 0 c.loop-place.next
           c.in-Some.place c.loop-place.invariant.none (λ p i. has_key T out xs atom key p has i) place.3
           (λ i. absurd (false≢true (sym c.if-is_image.false ∙ c.is_image.ensures.1 i)));
-      next = omega (arith, place.1, c.count-count.ensures);
+      next = omega (arith, place.1);
     }
 
 pub returns : goal.returns

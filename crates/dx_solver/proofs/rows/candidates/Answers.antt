@@ -26,7 +26,7 @@ loop-place-preserved c =
       within = subst (λ (l : List ℕ). Each l (λ q. q < length (numbers_of_table T atom.table).rows)) (sym pushed)
           (each_push (λ q. q < length (numbers_of_table T atom.table).rows) old p c.loop-place.invariant.within place.1);
       few = omega (arith, long, c.loop-place.invariant.few, place.0);
-      next = omega (arith, place.1, c.count-count.ensures);
+      next = omega (arith, place.1);
     }
 
 pub returns-clause-all : goal.returns-clause-all

@@ -5,7 +5,7 @@ use Rattle.dx_solver.specs.Domains.{IsImageRow, Keeps}
 use Rattle.dx_solver.proofs.rows.candidates.Given as goal
 
 abbrev pub decreases-loop-place : goal.decreases-loop-place
-decreases-loop-place l = l.count - l.next
+decreases-loop-place l = length (numbers_of_table l.question.numbers.now.tables l.atom.table).rows - l.next
 
 abbrev pub invariant-loop-place : goal.invariant-loop-place
 invariant-loop-place l = record {
@@ -13,5 +13,5 @@ invariant-loop-place l = record {
       → IsImageRow l.question.numbers.now.tables l.question.taken.now a l.atom p → p ∈ l.places.items;
   within : Each l.places.items (λ p. p < length (numbers_of_table l.question.numbers.now.tables l.atom.table).rows);
   few : length l.places.items ≤ l.next;
-  next : l.next ≤ l.count;
+  next : l.next ≤ length (numbers_of_table l.question.numbers.now.tables l.atom.table).rows;
 }

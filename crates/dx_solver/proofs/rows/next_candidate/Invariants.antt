@@ -1,9 +1,10 @@
-use Rattle.std.proofs.Common.{◌≤◌, ◌-◌}
+use Rattle.std.proofs.Common.{◌≤◌, ◌-◌, length}
+use Rattle.dx_instance.specs.Shown.{numbers_of_table}
 use Rattle.dx_solver.specs.Domains.{NoImage}
 use Rattle.dx_solver.proofs.rows.next_candidate.Given as goal
 
 abbrev pub decreases-loop-place : goal.decreases-loop-place
-decreases-loop-place l = l.count - l.next
+decreases-loop-place l = length (numbers_of_table l.question.numbers.now.tables l.atom.table).rows - l.next
 
 abbrev pub invariant-loop-place : goal.invariant-loop-place
 invariant-loop-place l = record {
