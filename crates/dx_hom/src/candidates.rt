@@ -108,7 +108,7 @@ fn count_to(found: &Bindings, into: &Instance, fact: &Fact, limit: u32) -> u32
     requires cells { Each found.now.cells (IsNullCell into.now) }
     ensures { result ≤ limit }
 {
-    let _few = into.tables();
+    prove!(fact.table < into.tables());
     let mut next = 0;
     for count in 0..limit {
         match candidate(found, into, fact, next) {
@@ -121,14 +121,10 @@ fn count_to(found: &Bindings, into: &Instance, fact: &Fact, limit: u32) -> u32
 
 // Whether a null of the fact was found.
 fn is_linked(found: &Bindings, fact: &Fact) -> bool {
-    for value in fact.row.items() {
-        if let Value::Null(null) = value {
-            if found.find(*null).is_some() {
-                return true;
-            }
-        }
-    }
-    false
+    fact.row.items().iter().any(|value| match value {
+        Value::Const(_) => false,
+        Value::Null(null) => found.find(*null).is_some(),
+    })
 }
 
 /// The fact at a place of the order.
@@ -181,12 +177,10 @@ fn first_with_fewest(found: &Bindings, into: &Instance, left: &FactsLeft<'_>) ->
 
 // Whether the fact has a constant.
 fn has_constant(fact: &Fact) -> bool {
-    for value in fact.row.items() {
-        if let Value::Const(_) = value {
-            return true;
-        }
-    }
-    false
+    fact.row
+        .items()
+        .iter()
+        .any(|value| matches!(value, Value::Const(_)))
 }
 
 // The only one of the next facts that has a constant, of those that are looked at.

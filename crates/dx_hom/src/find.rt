@@ -13,7 +13,7 @@ ghost use Rattle.dx_hom.specs.Searching.{FindsAll, IsReadyFor, Reaches};
 
 use crate::bindings::Bindings;
 use crate::goal::Goal;
-use crate::gone::Gone;
+use crate::gone::{Gone, Left};
 use crate::searching::{Stack, search};
 use dx_instance::{Instance, NullMap, copy_value};
 use dx_model::Fact;
@@ -88,24 +88,25 @@ impl Search {
         search(&mut self.found, &mut self.stack, from, &goal)
     }
 
-    /// The same into what is left of the instance without the facts that are gone.
+    /// The same into what is left of an instance.
     pub fn find_left(
         &mut self,
         from: &[Fact],
-        into: &Instance,
-        gone: &Gone,
+        left: &Left<'_>,
         fixed: &NullMap,
         avoid: Option<&Fact>,
     ) -> bool
-        requires { IsReadyFor into.now fixed.now from.now self.old }
+        requires { IsReadyFor left.now.instance.now fixed.now from.now self.old }
         ensures facts { self.new.facts ≡ self.old.facts }
         ensures nulls { self.new.nulls ≡ self.old.nulls }
-        ensures exact { IsTrue result ↔ Reaches into.now gone.now fixed.now (option_copied avoid.entry) from.now }
-        ensures found { OnTrue result (FindsAll into.now gone.now fixed.now (option_copied avoid.entry) from.now self.new.found) }
+        ensures exact { IsTrue result
+            ↔ Reaches left.now.instance.now left.now.gone.now fixed.now (option_copied avoid.entry) from.now }
+        ensures found { OnTrue result
+            (FindsAll left.now.instance.now left.now.gone.now fixed.now (option_copied avoid.entry) from.now self.new.found) }
     {
         let goal = Goal {
-            into,
-            gone,
+            into: left.instance,
+            gone: left.gone,
             fixed,
             avoid,
         };

@@ -68,3 +68,10 @@ impl Gone {
         self.tables[table as usize][place as usize] = true;
     }
 }
+
+/// What is left of an instance without the facts that are gone.
+#[derive(Drop)]
+pub struct Left<'a> {
+    pub instance: &'a Instance,
+    pub gone: &'a Gone,
+}

@@ -26,5 +26,5 @@ mod matching;
 mod searching;
 
 pub use find::Search;
-pub use gone::Gone;
+pub use gone::{Gone, Left};
 pub use matching::Found;

@@ -98,7 +98,7 @@ fn is_row(into: &Instance, table: u32, place: u32, row: &[Value]) -> bool
     requires place { place < length (rows_of into.now table) }
     ensures { IsTrue result ↔ (row.now ≡ row_at into.now table place) }
 {
-    let _wide = into.tables();
+    prove!(table < into.tables());
     if row.len() != into.width(table) as usize {
         return false;
     }
@@ -143,7 +143,7 @@ pub(crate) fn place_from(
     let bound = found.len();
     let table = fact.table;
     let count = goal.into.count(table);
-    let _wide = goal.into.tables();
+    prove!(table < goal.into.tables());
     let mut next = next;
     while let Some(place) = candidate(found, goal.into, fact, next) {
         if is_open(goal, table, place) {

@@ -10,5 +10,5 @@ overflow_add-next c =
     let any : ByNull = finite.empty in
     let place = c.in-Some.ensures any in
     let table = in_at c.args.into.now c.args.fact.now.table (record { width = 0; rows = [] }) c.requires.fits.table in
-    let few = c.tables-few.ensures.few (table_at c.args.into.now c.args.fact.now.table) table in
+    let few = c.tables.ensures.few (table_at c.args.into.now c.args.fact.now.table) table in
     omega (arith, place.1, few)

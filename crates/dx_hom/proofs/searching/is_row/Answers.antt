@@ -8,7 +8,7 @@ use Rattle.dx_hom.proofs.searching.is_row.Goals as goal
 
 pub returns-then-row-width : goal.returns-then-row-width
 returns-then-row-width c =
-    let wide = row_wide c.args.into.now c.args.table c.args.place c.requires.table c.requires.place c.tables-wide.ensures.rows in (
+    let wide = row_wide c.args.into.now c.args.table c.args.place c.requires.table c.requires.place c.tables.ensures.rows in (
       (λ t. absurd (false≢true t)),
       (λ e. absurd (let l = ap length e in omega (arith, l, wide, c.width.ensures, c.if-row-width.true))),
     )
@@ -18,7 +18,7 @@ loop-column-preserved c =
     let row = c.args.row.now in
     let at = row_at c.args.into.now c.args.table c.args.place in
     let i = c.loop-column.column in
-    let wide = row_wide c.args.into.now c.args.table c.args.place c.requires.table c.requires.place c.tables-wide.ensures.rows in
+    let wide = row_wide c.args.into.now c.args.table c.args.place c.requires.table c.requires.place c.tables.ensures.rows in
     let h : i < length row =
     omega (arith, c.if-row-width.false, c.width.ensures, c.width-column-end.ensures, c.loop-column-test.true) in
     let l : length at ≡ length row = omega (arith, wide, c.if-row-width.false, c.width.ensures) in
@@ -30,7 +30,7 @@ pub returns : goal.returns
 returns c =
     let row = c.args.row.now in
     let at = row_at c.args.into.now c.args.table c.args.place in
-    let wide = row_wide c.args.into.now c.args.table c.args.place c.requires.table c.requires.place c.tables-wide.ensures.rows in
+    let wide = row_wide c.args.into.now c.args.table c.args.place c.requires.table c.requires.place c.tables.ensures.rows in
     let done : length row ≤ c.loop-column.column =
     omega (arith, c.if-row-width.false, c.width.ensures, c.width-column-end.ensures, c.loop-column-test.false) in
     let l : length at ≡ length row = omega (arith, wide, c.if-row-width.false, c.width.ensures) in

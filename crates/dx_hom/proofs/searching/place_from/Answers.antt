@@ -20,14 +20,14 @@ meet_row-requires-clause-row c =
       table = fits.table;
       place = place;
       width = rw c.items.ensures fits.width;
-      wide = row_wide c.args.goal.now.into.now c.args.fact.now.table c.in-Some.place fits.table place c.tables-wide.ensures.rows;
+      wide = row_wide c.args.goal.now.into.now c.args.fact.now.table c.in-Some.place fits.table place c.tables.ensures.rows;
     }
 
 pub overflow_add-next : goal.overflow_add-next
 overflow_add-next c =
     let place = c.in-Some.ensures c.args.goal.now.fixed.now in
     let table = in_at c.args.goal.now.into.now c.args.fact.now.table (record { width = 0; rows = [] }) c.requires.fits.table in
-    let few = c.tables-wide.ensures.few (table_at c.args.goal.now.into.now c.args.fact.now.table) table in
+    let few = c.tables.ensures.few (table_at c.args.goal.now.into.now c.args.fact.now.table) table in
     omega (arith, place.1, few)
 
 pub loop-place-smaller : goal.loop-place-smaller
