@@ -1,8 +1,9 @@
 -- From sets to tables.
-use Rattle.std.proofs.Common.{◌≡◌, ℕ, ◌+◌, ◌^◌, ◌<◌, ◌≤◌, List, [], ◌∷◌, Option, Some, None, Bool, true, false, not, is_some, append_assoc, length, map, refl, sym, ap, ◌∙◌, subst, arith, inl, inr, get_or, ◌++◌, take, codes}
+use Rattle.std.proofs.Common.{◌≡◌, ℕ, ◌+◌, ◌^◌, ◌<◌, ◌≤◌, List, [], ◌∷◌, Option, Some, None, Bool, true, false, not, is_some, append_assoc, length, map, refl, sym, ap, ◌∙◌, subst, arith, inl, inr, get_or, ◌++◌, ◌||◌, take, codes, nat_eq}
 use Rattle.std.specs.Prelude.{IsTrue, nat_lt}
 use Rattle.std.proofs.lemmas.Bool.{le-ltb, lt-ltb, cases_lt, false≢true}
-use Rattle.std.specs.List.{filter}
+use Rattle.std.specs.List.{filter, list_any}
+use Rattle.std.specs.Cmp.Lexicographic.{pointwise}
 use Rattle.std.proofs.lemmas.List.{get_or_default, get_or-map, take_all, take_more, map-append, length-map, append-nil}
 use Rattle.std.proofs.lemmas.List.Elements.{filter-append}
 use Rattle.std.proofs.Math.ListN.{get_or-eq_default}
@@ -20,13 +21,18 @@ use Rattle.dx_schema.specs.Forest.{Forest, none, set, has_sets}
 use Rattle.dx_schema.specs.Tables.{TableOf, NumberedSet, count, sets_of, names_of, columns_of, key_named, keys_in, where_has_inner, where_inner, table_in, tables_of, schema_table, no_table, as_numbers, AreTables}
 use Rattle.dx_base.specs.Texts.{Text}
 use Rattle.dx_base.specs.Firsts.{first_of}
-use Rattle.dx_schema.specs.Faults.{depth, sets_fault, declarations_fault, form_fault}
+use Rattle.dx_schema.specs.Faults.{depth, is_among, sets_fault, declarations_fault, form_fault}
 use Rattle.dx_schema.specs.Links.{IsAcyclic, IsFirstCycle, IsFaultless, IsFirstSchemaFault}
 use Rattle.dx_schema.specs.Nodes.{node_view, ListsNodes}
 use Rattle.dx_schema.specs.Making.{IsOverview, IsOwnList, IsReadyForTables}
 use Rattle.dx_schema.proofs.Preorder.{length_placed, numbers_bound}
 use Rattle.dx_schema.proofs.Loops.{one_left, shown_in, shown_is, taken}
 use Rattle.dx_schema.proofs.Valid.{are_tables, columns_are}
+
+-- whether a name is among names
+pub any_named : (name : Text) (names : List Text) → list_any (λ x. pointwise nat_eq x name) names ≡ is_among name names
+any_named name [] = refl
+any_named name (x ∷ xs) = ap (λ b. pointwise nat_eq x name || b) (any_named name xs)
 
 pub too_many_fault : (f : Forest) → 64 < count f → form_fault f ≡ Some (TooMany (record { what = Tables; number = 64 }))
 too_many_fault f h = rw (lt-ltb 64 (count f) h) refl

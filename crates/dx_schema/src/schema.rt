@@ -48,12 +48,10 @@ fn number_in(names: &[Text], name: &Text) -> Option<u32>
     ensures some { IfSome result (λ n. (n < length names.now) × (slice_index_or names.now n [] ≡ name.now)) }
     ensures none { IsSome result ↔ (name.now ∈ names.now) }
 {
-    for (number, other) in names.iter().enumerate() {
-        if other.is(name) {
-            return Some(number as u32);
-        }
+    match names.iter().position(|other| other.is(name)) {
+        Some(number) => Some(number as u32),
+        None => None,
     }
-    None
 }
 
 impl Schema {
@@ -152,12 +150,10 @@ impl Schema {
         ensures some { IfSome result (λ t. (t < length (tables_of self.now)) × ((schema_table self.now t).name ≡ name.now)) }
         ensures none { IsSome result ↔ (name.now ∈ map (λ t. t.name) (tables_of self.now)) }
     {
-        for (number, table) in self.tables.iter().enumerate() {
-            if table.name.is(name) {
-                return Some(number as u32);
-            }
+        match self.tables.iter().position(|table| table.name.is(name)) {
+            Some(number) => Some(number as u32),
+            None => None,
         }
-        None
     }
 
     /// The column of this name. None if there is none.

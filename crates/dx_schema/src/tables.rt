@@ -29,6 +29,14 @@ pub struct Table {
     pub inner: Items<u32>,
 }
 
+// Sets, their names, and the columns of each one's table.
+#[derive(Clone, Copy)]
+struct Overview<'a> {
+    names: &'a [Text],
+    columns: &'a [Items<Text>],
+    sets: &'a [Node<'a>],
+}
+
 // The number of one name, as a list.
 fn number_alone(alloc: Global, all: &[Text], name: &str) -> Result<Items<u32>, AllocError>
     requires { length all.now < 2 ^ 32 }
@@ -124,20 +132,18 @@ fn columns_numbered(columns: &[Items<Text>], number: u32) -> &[Text]
 // The link of a ref.
 fn link_made(
     alloc: Global,
-    names: &[Text],
-    columns: &[Items<Text>],
-    sets: &[Node],
+    overview: &Overview,
     node: &Node,
     own: &[Text],
     link: &RefDecl,
 ) -> Result<Link, AllocError>
-    requires overview { IsOverview sets.now names.now columns.now }
+    requires overview { IsOverview overview.now.sets.now overview.now.names.now overview.now.columns.now }
     requires own { IsOwnList node.now own.now }
-    ensures { IfOk result (λ l. l ≡ link_of (map node_view sets.now) (node_view node.now) link.now) }
+    ensures { IfOk result (λ l. l ≡ link_of (map node_view overview.now.sets.now) (node_view node.now) link.now) }
 {
-    let table = number_among(names, &link.set);
+    let table = number_among(overview.names, &link.set);
     let from = numbers_among(alloc, own, link.columns.items())?;
-    let referred = columns_numbered(columns, table);
+    let referred = columns_numbered(overview.columns, table);
     let to = numbers_among(alloc, referred, link.referred.items())?;
     Ok(Link { from, table, to })
 }
@@ -166,21 +172,19 @@ fn links_begun(
 // The links of a set's table.
 fn links_made(
     alloc: Global,
-    names: &[Text],
-    columns: &[Items<Text>],
-    sets: &[Node],
+    overview: &Overview,
     node: &Node,
     own: &[Text],
 ) -> Result<Items<Link>, AllocError>
-    requires overview { IsOverview sets.now names.now columns.now }
+    requires overview { IsOverview overview.now.sets.now overview.now.names.now overview.now.columns.now }
     requires own { IsOwnList node.now own.now }
-    ensures { IfOk result (λ links. links ≡ links_in (map node_view sets.now) (node_view node.now)) }
+    ensures { IfOk result (λ links. links ≡ links_in (map node_view overview.now.sets.now) (node_view node.now)) }
 {
     let tree = node.tree;
-    let mut links = links_begun(alloc, columns, sets, node, own)?;
+    let mut links = links_begun(alloc, overview.columns, overview.sets, node, own)?;
     for link in tree.refs.items() {
         if !link.optional {
-            links.push(link_made(alloc, names, columns, sets, node, own, link)?)?;
+            links.push(link_made(alloc, overview, node, own, link)?)?;
         }
     }
     Ok(links)
@@ -189,21 +193,19 @@ fn links_made(
 // The optional links of a set's table.
 fn optional_made(
     alloc: Global,
-    names: &[Text],
-    columns: &[Items<Text>],
-    sets: &[Node],
+    overview: &Overview,
     node: &Node,
     own: &[Text],
 ) -> Result<Items<Link>, AllocError>
-    requires overview { IsOverview sets.now names.now columns.now }
+    requires overview { IsOverview overview.now.sets.now overview.now.names.now overview.now.columns.now }
     requires own { IsOwnList node.now own.now }
-    ensures { IfOk result (λ links. links ≡ optional_in (map node_view sets.now) (node_view node.now)) }
+    ensures { IfOk result (λ links. links ≡ optional_in (map node_view overview.now.sets.now) (node_view node.now)) }
 {
     let tree = node.tree;
     let mut links = Items::new(alloc);
     for link in tree.refs.items() {
         if link.optional {
-            links.push(link_made(alloc, names, columns, sets, node, own, link)?)?;
+            links.push(link_made(alloc, overview, node, own, link)?)?;
         }
     }
     Ok(links)
@@ -212,16 +214,14 @@ fn optional_made(
 // The table of a set.
 fn table_made(
     alloc: Global,
-    names: &[Text],
-    columns: &[Items<Text>],
-    sets: &[Node],
+    overview: &Overview,
     node: &Node,
     own: &[Text],
 ) -> Result<Table, AllocError>
-    requires overview { IsOverview sets.now names.now columns.now }
+    requires overview { IsOverview overview.now.sets.now overview.now.names.now overview.now.columns.now }
     requires own { IsOwnList node.now own.now }
     requires bounded { (node_view node.now).number + count (node_view node.now).inner < TABLES }
-    ensures { IfOk result (λ table. table ≡ table_in (map node_view sets.now) (node_view node.now)) }
+    ensures { IfOk result (λ table. table ≡ table_in (map node_view overview.now.sets.now) (node_view node.now)) }
 {
     let tree = node.tree;
     Ok(Table {
@@ -229,8 +229,8 @@ fn table_made(
         columns: copies(alloc, own)?,
         keys: keys_made(alloc, node, own)?,
         deps: deps_made(alloc, node, own)?,
-        links: links_made(alloc, names, columns, sets, node, own)?,
-        optional: optional_made(alloc, names, columns, sets, node, own)?,
+        links: links_made(alloc, overview, node, own)?,
+        optional: optional_made(alloc, overview, node, own)?,
         parent: node.parent,
         inner: numbers_made(alloc, node.number + 1, &tree.inner)?,
     })
@@ -253,10 +253,15 @@ pub fn tables_made(alloc: Global, names: &[Text], sets: &[Node]) -> Result<Vec<T
     ensures { IfOk result (λ tables. tables.items ≡ map (table_in (map node_view sets.now)) (map node_view sets.now)) }
 {
     let columns = all_columns(alloc, sets)?;
+    let overview = Overview {
+        names,
+        columns: columns.items(),
+        sets,
+    };
     let mut tables = Vec::new(alloc);
     for (i, node) in sets.iter().enumerate() {
-        let own = columns.items()[i].items();
-        let table = table_made(alloc, names, columns.items(), sets, node, own)?;
+        let own = overview.columns[i].items();
+        let table = table_made(alloc, &overview, node, own)?;
         tables.push(table)?;
     }
     Ok(tables)
