@@ -1,20 +1,33 @@
 -- Patterns, their variables, and assignments that agree on them.
-use Rattle.std.proofs.Common.{◌≡◌, ◌⊎◌, ◌∙◌, ◌<◌, ◌≤◌, ◌+◌, ◌++◌, ◌∷◌, ℕ, zero, suc, cond, eqb, List, [], Bool, false, refl, sym, ap, subst, arith, length, get_or, take, inl, inr}
+use Rattle.std.proofs.Common.{◌≡◌, ◌⊎◌, ◌∙◌, ◌<◌, ◌≤◌, ◌+◌, ◌++◌, ◌∷◌, ℕ, zero, suc, cond, eqb, not, true, IsTrue, ◌↔◌, List, [], Bool, false, refl, sym, ap, subst, arith, length, get_or, take, inl, inr}
 use Rattle.std.specs.Prelude.{map}
 use Rattle.std.specs.List.{list_any}
-use Rattle.std.proofs.lemmas.Bool.{cases_Bool, eqb-true, eq-eqb, cond-true, cond-false}
+use Rattle.std.proofs.lemmas.Bool.{false≢true, cases_Bool, eqb-true, eq-eqb, cond-true, cond-false}
 use Rattle.std.proofs.lemmas.List.{length-append, take_more, take_all, append-nil, append_assoc}
 use Rattle.dx_base.specs.Members.{◌∈◌, ◌⊆◌, here, there, Each}
-use Rattle.dx_base.proofs.Members.{in_left, in_right, from_append, in_flat_map, map_agrees, in_at, distinct_more}
+use Rattle.dx_base.proofs.Members.{in_left, in_right, from_append, in_flat_map, from_flat_map, map_agrees, in_at, distinct_more}
 use Rattle.dx_base.proofs.Tests.{map_same, to_any, from_any}
 use Rattle.dx_instance.specs.Cells.{NumberTable}
 use Rattle.dx_joins.specs.declared.pattern.Pattern.{Pattern}
 use Rattle.dx_joins.specs.Joining.{MatchesPatterns, MatchesPattern, HasRowsWith, variables_of_patterns}
+use Rattle.dx_joins.specs.Products.{ShareNone}
 use Rattle.dx_joins.specs.declared.premise.Partial.{Partial}
 use Rattle.dx_joins.specs.Planning.{AddsOnce, IsMatchRow, StepsTo}
 
 pub in_pattern : (x : ℕ) (p : Pattern) (ps : List Pattern) → p ∈ ps → x ∈ p.variables.items → x ∈ variables_of_patterns ps
 in_pattern x p ps m h = in_flat_map (λ (q : Pattern). q.variables.items) m h
+
+-- whether some of the patterns has a variable of the first ones: if not, they share none
+pub none_shared : (r : Bool) (first others : List Pattern) → (IsTrue r ↔ ((p : Pattern) × (p ∈ others) × ((x : ℕ) × (x ∈ p.variables.items) × (x ∈ variables_of_patterns first)))) → IsTrue (not r) ↔ ShareNone first others
+none_shared r first others h = (apart r h.1, none r h.0)
+  where
+    apart : (b : Bool) → (((p : Pattern) × (p ∈ others) × ((x : ℕ) × (x ∈ p.variables.items) × (x ∈ variables_of_patterns first))) → IsTrue b) → IsTrue (not b) → ShareNone first others
+    apart true k t = absurd (false≢true t)
+    apart false k t = λ x m n. let s = from_flat_map (λ (p : Pattern). p.variables.items) others n in absurd (false≢true (k (s.0, s.1, (x, s.2, m))))
+
+    none : (b : Bool) → (IsTrue b → ((p : Pattern) × (p ∈ others) × ((x : ℕ) × (x ∈ p.variables.items) × (x ∈ variables_of_patterns first)))) → ShareNone first others → IsTrue (not b)
+    none true k s = let w = k refl in absurd (s w.2.0 w.2.2 (in_pattern w.2.0 w.0 others w.1 w.2.1))
+    none false k s = refl
 
 pub variables_more : (done : List Pattern) (p : Pattern) → variables_of_patterns (done ++ p ∷ []) ≡ variables_of_patterns done ++ p.variables.items
 variables_more [] p = append-nil p.variables.items

@@ -18,10 +18,7 @@ fn one_stands_in(variables: &[u32], patterns: &[Pattern]) -> bool
 pub(crate) fn are_apart(first: &[Pattern], others: &[Pattern]) -> bool
     ensures { IsTrue result ↔ ShareNone first.now others.now }
 {
-    for pattern in others {
-        if one_stands_in(&pattern.variables, first) {
-            return false;
-        }
-    }
-    true
+    !others
+        .iter()
+        .any(|pattern| one_stands_in(&pattern.variables, first))
 }

@@ -15,12 +15,15 @@ use dx_instance::{Symbols, Value};
 use dx_model::Derived;
 use std::alloc::{AllocError, Global};
 
-/// The variables that rows are for, and the variables that are derived of them, which are numbered from `first` on.
-#[derive(Clone, Copy)]
-pub(crate) struct Derivation<'a> {
+/// The variables that rows are for, and the variables that are derived of them, which are numbered from `first` on, with the
+/// host that computes their texts.
+#[derive(Drop)]
+pub(crate) struct Derivation<'a, 'h, F, M> {
+    pub(crate) alloc: Global,
     pub(crate) wanted: &'a [u32],
     pub(crate) derived: &'a [Derived],
     pub(crate) first: u32,
+    pub(crate) host: &'h Host<F, M>,
     ghost numbers: { first + length derived.now < 2 ^ 32 },
 }
 
@@ -57,38 +60,45 @@ fn texts_for(
 
 // The number of a derived variable's text, for the texts of a row.
 fn derived_number<F: Fn(u32, &Items<Text>) -> Result<Text, AllocError>, M: Meaning>(
-    alloc: Global,
-    names: &[u32],
+    derivation: &Derivation<'_, '_, F, M>,
     row: &[u32],
     derived: &Derived,
     symbols: &mut Symbols,
-    host: &Host<F, M>,
 ) -> Result<u32, AllocError>
-    requires computed { IsComputed F.Fn M.apply host.now names.now derived.now }
-    requires row { IsTextRow symbols.old (length names.now) row.now }
+    requires computed { IsComputed F.Fn M.apply derivation.now.host.now derivation.now.wanted.now derived.now }
+    requires row { IsTextRow symbols.old (length derivation.now.wanted.now) row.now }
     ensures grows { Extends symbols.old symbols.new }
     ensures apart { ValuesDiffer symbols.new }
     ensures within { IfOk result (λ n. n < length symbols.new) }
     ensures value { IfOk result (λ n. value_of symbols.new n
-        ≡ Const (derived_value M.apply names.now derived.now (texts_of symbols.old row.now))) }
+        ≡ Const (derived_value M.apply derivation.now.wanted.now derived.now (texts_of symbols.old row.now))) }
 {
-    let args = texts_for(alloc, names, row, derived.args.items(), symbols)?;
-    let text = host.call(derived.code, &args)?;
+    let args = texts_for(
+        derivation.alloc,
+        derivation.wanted,
+        row,
+        derived.args.items(),
+        symbols,
+    )?;
+    let text = derivation.host.call(derived.code, &args)?;
     let number = symbols.intern(Value::Const(text))?;
     Ok(number as u32)
 }
 
-impl<'a> Derivation<'a> {
+impl<'a, 'h, F: Fn(u32, &Items<Text>) -> Result<Text, AllocError>, M: Meaning> Derivation<
+    'a,
+    'h,
+    F,
+    M,
+> {
     /// Puts a row into the buffer, and after it the numbers of the texts of derived variables.
-    pub(crate) fn derive<F: Fn(u32, &Items<Text>) -> Result<Text, AllocError>, M: Meaning>(
+    pub(crate) fn derive(
         &self,
-        alloc: Global,
         row: &[u32],
         symbols: &mut Symbols,
-        host: &Host<F, M>,
         buffer: &mut Vec<u32>,
     ) -> Result<(), AllocError>
-        requires computed { Each self.now.derived.now (IsComputed F.Fn M.apply host.now self.now.wanted.now) }
+        requires computed { Each self.now.derived.now (IsComputed F.Fn M.apply self.now.host.now self.now.wanted.now) }
         requires row { IsTextRow symbols.old (length self.now.wanted.now) row.now }
         ensures grows { Extends symbols.old symbols.new }
         ensures apart { ValuesDiffer symbols.new }
@@ -99,7 +109,7 @@ impl<'a> Derivation<'a> {
         buffer.clear();
         buffer.extend_from_slice(row)?;
         for one in self.derived {
-            let number = derived_number(alloc, self.wanted, row, one, symbols, host)?;
+            let number = derived_number(self, row, one, symbols)?;
             buffer.push(number)?;
         }
         Ok(())

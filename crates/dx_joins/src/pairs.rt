@@ -12,12 +12,7 @@ pub(crate) fn are_marked(marks: &[bool], row: &[u32]) -> bool
     requires { NumbersBelow (length marks.now) row.now }
     ensures { IsTrue result ↔ AllMarked marks.now row.now }
 {
-    for number in row {
-        if !marks[*number as usize] {
-            return false;
-        }
-    }
-    true
+    row.iter().all(|number| marks[*number as usize])
 }
 
 // The number at a place of two rows, one after the other.
@@ -38,12 +33,7 @@ pub(crate) fn agree(left: &[u32], right: &[u32], firsts: &[usize]) -> bool
     requires many { length firsts.now ≡ length right.now }
     ensures { IsTrue result ↔ (numbers_at_places (left.now ++ right.now) firsts.now ≡ right.now) }
 {
-    for column in 0..firsts.len() {
-        if number_at(left, right, firsts[column]) != right[column] {
-            return false;
-        }
-    }
-    true
+    firsts.iter().zip(right).all(|(place, number)| number_at(left, right, *place) == *number)
 }
 
 /// Puts the numbers at these places into the buffer.

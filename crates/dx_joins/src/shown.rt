@@ -104,15 +104,13 @@ fn names_of(alloc: Global, wanted: &[u32], first: u32, count: u32) -> Result<Vec
 // Collects what a row and its derived variables give to the variables at these places of both. Answers whether there are
 // more rows than are wanted.
 fn derive_row<F: Fn(u32, &Items<Text>) -> Result<Text, AllocError>, M: Meaning>(
-    alloc: Global,
-    derivation: &Derivation,
+    derivation: &Derivation<'_, '_, F, M>,
     row: &[u32],
     places: &[usize],
     symbols: &mut Symbols,
-    host: &Host<F, M>,
     out: &mut Collected,
 ) -> Result<bool, AllocError>
-    requires computed { Each derivation.now.derived.now (IsComputed F.Fn M.apply host.now derivation.now.wanted.now) }
+    requires computed { Each derivation.now.derived.now (IsComputed F.Fn M.apply derivation.now.host.now derivation.now.wanted.now) }
     requires row { IsTextRow symbols.old (length derivation.now.wanted.now) row.now }
     requires places { TakesPlaces (length derivation.now.wanted.now + length derivation.now.derived.now) places.now out.old }
     ensures grows { Extends symbols.old symbols.new }
@@ -120,24 +118,22 @@ fn derive_row<F: Fn(u32, &Items<Text>) -> Result<Text, AllocError>, M: Meaning>(
     ensures derives { IfOk result (λ full. DerivesTo M.apply derivation.now.wanted.now derivation.now.derived.now places.now
         symbols.old symbols.new row.now full out.old out.new) }
 {
-    let mut buffer = Vec::new(alloc);
-    let mut gathered = Vec::new(alloc);
-    derivation.derive(alloc, row, symbols, host, &mut buffer)?;
+    let mut buffer = Vec::new(derivation.alloc);
+    let mut gathered = Vec::new(derivation.alloc);
+    derivation.derive(row, symbols, &mut buffer)?;
     gather(&buffer, &[], places, &mut gathered)?;
     out.push(&gathered)
 }
 
 // The rows that rows and their derived variables give to the variables.
 fn derived_rows<F: Fn(u32, &Items<Text>) -> Result<Text, AllocError>, M: Meaning>(
-    alloc: Global,
-    derivation: &Derivation,
+    derivation: &Derivation<'_, '_, F, M>,
     rows: &Rows,
     shown: &[u32],
     symbols: &mut Symbols,
-    host: &Host<F, M>,
     most: u64,
 ) -> Result<Option<Rows>, AllocError>
-    requires computed { Each derivation.now.derived.now (IsComputed F.Fn M.apply host.now derivation.now.wanted.now) }
+    requires computed { Each derivation.now.derived.now (IsComputed F.Fn M.apply derivation.now.host.now derivation.now.wanted.now) }
     requires rows { HasTextRows symbols.old (length derivation.now.wanted.now) rows.now }
     requires shown { FewAmong
         (derivation.now.wanted.now ++ range_with_len derivation.now.first (length derivation.now.derived.now)) shown.now }
@@ -151,12 +147,12 @@ fn derived_rows<F: Fn(u32, &Items<Text>) -> Result<Text, AllocError>, M: Meaning
     ensures within { IfOk result (λ o. IfSome o (λ r. length r.rows ≤ most)) }
 {
     let count = derivation.derived.len() as u32;
-    let names = names_of(alloc, derivation.wanted, derivation.first, count)?;
-    let places = places(alloc, &names, shown)?;
-    let mut out = Collected::new(alloc, shown.len() as u32, most, rows.count());
+    let names = names_of(derivation.alloc, derivation.wanted, derivation.first, count)?;
+    let places = places(derivation.alloc, &names, shown)?;
+    let mut out = Collected::new(derivation.alloc, shown.len() as u32, most, rows.count());
     for place in 0..rows.count() {
         let row = rows.row(place);
-        if derive_row(alloc, derivation, row, &places, symbols, host, &mut out)? {
+        if derive_row(derivation, row, &places, symbols, &mut out)? {
             return Ok(None);
         }
     }
@@ -192,7 +188,7 @@ pub fn shown_rows<F: Fn(u32, &Items<Text>) -> Result<Text, AllocError>, M: Meani
     ensures within { IfOk result (λ o. IfSome o (λ r. length r.rows ≤ most)) }
 {
     // The call tells that the symbols are distinct.
-    let _count = symbols.len();
+    prove!(symbols.len() < 4_294_967_296);
     if derived.is_empty() {
         return premise_shown(alloc, premise, shown, source, most);
     }
@@ -201,11 +197,13 @@ pub fn shown_rows<F: Fn(u32, &Items<Text>) -> Result<Text, AllocError>, M: Meani
     match premise_shown(alloc, premise, &wanted, source, u64::MAX)? {
         Some(rows) => {
             let derivation = Derivation {
+                alloc,
                 wanted: &wanted,
                 derived,
                 first,
+                host,
             };
-            derived_rows(alloc, &derivation, &rows, shown, symbols, host, most)
+            derived_rows(&derivation, &rows, shown, symbols, most)
         }
         None => unreachable!(),
     }

@@ -23,7 +23,7 @@ pub derived_rows-requires-clause-rows : goal.derived_rows-requires-clause-rows
 derived_rows-requires-clause-rows g c =
     let s = found c.in_ok-rows.field-0 c.in-Some.rows _ _ c.in-Some.is (c.in_ok-rows.ensures.rows g.M.Meaning.apply) in
     record {
-      apart = c.len-count.ensures.apart;
+      apart = c.len.ensures.apart;
       width = s.width ∙ ap length (c.deref.ensures.value ∙ sym c.deref-in-Some.ensures.value);
       texts = λ r m. texts_grow c.args.source.now.symbols c.args.symbols.now r c.requires.symbols (s.texts r m);
     }
