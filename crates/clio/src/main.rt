@@ -24,7 +24,7 @@ ghost use Rattle.clio.specs.Exit.{IsExit};
 
 use clio_ending::status_and_message;
 use clio_folder::{FolderInputs, FolderOutputs};
-use clio_terminal::shown;
+use clio_terminal::{ShownText, shown};
 use clio_top::{Ending, run};
 use dx_base::{Items, Text};
 use dx_funcs::{Host, Meaning, Shipped, Tests, check_row, convert, shipped_list, shipped_tests};
@@ -64,21 +64,26 @@ fn words(rt: &(impl Env + AllocGlobal)) -> Result<Vec<Text>, AllocError> {
     Ok(words)
 }
 
-// Says a message to standard error, as a terminal may be given it. If there is no memory for that, nothing is said.
-fn tell(rt: &(impl Eprint + AllocGlobal), message: &Text) {
-    if let Ok(line) = shown(rt.alloc(), message.as_str()) {
-        let _ = eprintln!(rt; "{line}");
-    }
+// What a terminal may be given of a message.
+fn line_of(alloc: Global, message: Result<Text, AllocError>) -> Result<ShownText, AllocError> {
+    let message = message?;
+    shown(alloc, message.as_str())
 }
 
-// Says the message of an ending, and gives its status.
+// Says to standard error what is shown of a message, and never a message itself.
+fn tell(rt: &impl Eprint, line: &ShownText) {
+    // If standard error takes nothing, there is nobody to be told.
+    eprintln!(rt; "{}", line.as_str()).ok();
+}
+
+// Says the message of an ending, and gives its status. If there is no memory for the message, nothing is said.
 fn ended(rt: &(impl Eprint + AllocGlobal), ending: Ending) -> ExitCode
     ensures { exit_status result ≡ status_of ending }
 {
     let (status, message) = status_and_message(rt.alloc(), ending);
     if status != 0 {
-        if let Ok(message) = message {
-            tell(rt, &message);
+        if let Ok(line) = line_of(rt.alloc(), message) {
+            tell(rt, &line);
         }
     }
     ExitCode::from(status)
@@ -89,30 +94,6 @@ fn no_memory(_: AllocError) -> ExitCode
     ensures { exit_status result ≡ status_of Memory }
 {
     ExitCode::from(9)
-}
-
-// A run of these words over what is read from and written to, and its status.
-fn run_over<I: Inputs, O: Outputs, F, P, M>(
-    rt: &(impl Eprint + AllocGlobal),
-    words: &Vec<Text>,
-    inputs: &mut I,
-    outputs: &mut O,
-    host: &Host<F, M>,
-    tests: &Tests<P, M>,
-) -> ExitCode
-where
-    F: Fn(u32, &Items<Text>) -> Result<Text, AllocError>,
-    P: Fn(u32, &Text) -> Result<bool, AllocError>,
-    M: Meaning,
-    requires serves { Serves F.Fn M.apply host.now }
-    requires decides { Decides P.Fn M.passes tests.now }
-    ensures { (e : EndingOf) × (exit_status result ≡ status_of e)
-        × IsRight (program (offered host.now) (tested tests.now) M.apply M.passes) words.now.items e
-        (I.state inputs.old) (I.state inputs.new) (O.state outputs.old) (O.state outputs.new)
-        (O.faults outputs.old) (O.faults outputs.new) }
-{
-    let ending = run(rt.alloc(), words, inputs, outputs, host, tests);
-    ended(rt, ending)
 }
 
 // Whether a text passes a shipped row test.
@@ -153,11 +134,13 @@ fn run_shipped<I: Inputs, O: Outputs>(
         ensures { IfOk result (λ b. b ≡ shipped_passes code text.entry.now) }
     { passes(code, text) };
     let tests: Tests<_, Shipped> = Tests::build(listed, row_tests);
-    run_over(rt, words, inputs, outputs, &host, &tests)
+    let ending = run(alloc, words, inputs, outputs, &host, &tests);
+    ended(rt, ending)
 }
 
 fn main(rt: HostRuntime) -> ExitCode {
-    let _ = first_block(rt.alloc());
+    // Without the block all memory comes piece by piece.
+    first_block(rt.alloc()).ok();
     let words = match words(&rt) {
         Ok(words) => words,
         Err(error) => return no_memory(error),

@@ -40,19 +40,34 @@ fn push_shown(character: char, out: &mut String) -> Result<(), AllocError>
     out.push(character)
 }
 
+/// What is shown of a text. `shown` alone makes one, so what takes one can't be given a text as it is.
+#[derive(Drop)]
+pub struct ShownText {
+    text: String,
+}
+
+impl ShownText {
+    /// The characters that are shown.
+    pub fn as_str(&self) -> &str
+        ensures { result.now ≡ string_bytes self.now.text }
+    {
+        self.text.as_str()
+    }
+}
+
 /// A text as it is shown.
 ///
 /// # Errors
 ///
 /// `AllocError` if there is no memory.
-pub fn shown(alloc: Global, text: &str) -> Result<String, AllocError>
-    ensures { IfOk result (λ s. string_bytes s ≡ encode_utf8_all (shown (chars text.now))) }
+pub fn shown(alloc: Global, text: &str) -> Result<ShownText, AllocError>
+    ensures { IfOk result (λ s. string_bytes s.text ≡ encode_utf8_all (shown (chars text.now))) }
 {
     let mut out = String::new(alloc);
     'text: for character in text.chars() {
         push_shown(character, &mut out)?;
     }
-    Ok(out)
+    Ok(ShownText { text: out })
 }
 
 #[cfg(test)]

@@ -4,7 +4,7 @@ use Rattle.clio.proofs.run_shipped.Goals as goal
 
 pub returns : goal.returns
 returns g c =
-    exits _ _ _ _ _ _ _ _ _ _ (c.build-host.ensures.offered ∙ c.in-Ok.ensures.list) (c.build-tests.ensures.tested ∙ c.in-Ok-shipped_tests.ensures.list) c.run_over.ensures
+    exits _ _ _ _ _ _ _ _ _ _ (c.build-host.ensures.offered ∙ c.in-Ok.ensures.list) (c.build-tests.ensures.tested ∙ c.in-Ok-shipped_tests.ensures.list) (c.run-ending.result, c.ended.ensures, c.run-ending.ensures)
 
 pub returns-in-Err : goal.returns-in-Err
 returns-in-Err g c = without_memory _ _ _ _ _ c.no_memory.ensures
