@@ -1,10 +1,10 @@
 -- Facts that move into an instance: without nulls they stand there, and else by blocks.
-use Rattle.std.proofs.Common.{◌≡◌, ◌∙◌, ◌⊎◌, ℕ, ◌+◌, ◌<◌, ◌≤◌, List, [], ◌∷◌, Bool, inl, inr, refl, sym, ap, subst, arith, length, get_or, take, Result, Ok, Err}
+use Rattle.std.proofs.Common.{◌≡◌, ◌∙◌, ◌⊎◌, ℕ, ◌+◌, ◌<◌, ◌≤◌, List, [], ◌∷◌, Bool, inl, inr, refl, sym, ap, subst, arith, length, get_or, Result, Ok, Err}
 use Rattle.std.specs.Prelude.{map, ◌↔◌, IfOk, IsTrue}
 use Rattle.std.specs.declared.alloc.AllocError.{AllocError}
-use Rattle.std.proofs.lemmas.List.{get_or-map, length-map, take_more}
+use Rattle.std.proofs.lemmas.List.{get_or-map, length-map}
 use Rattle.dx_base.specs.Members.{◌∈◌, ◌⊆◌, Each, here, there}
-use Rattle.dx_base.proofs.Members.{from_append, from_map, in_at, in_map}
+use Rattle.dx_base.proofs.Members.{from_map, in_at, in_map}
 use Rattle.dx_model.specs.declared.facts.Fact.{Fact}
 use Rattle.dx_model.specs.declared.rules.Atom.{Atom}
 use Rattle.dx_model.specs.declared.rules.Rule.{Rule}
@@ -149,18 +149,6 @@ tuple_answered d K F t (Ok can) e w = tuple_exactly d K F t can e w
 tuple_answered d K F t (Err x) e w = tt
 
 -- ---- rows of a table
-
--- a row that has no null so far has none with one constant more
-pub ground_more : (row : List Value) (i : ℕ) (v : Value) → i < length row → v ≡ get_or row i v → ((n : NullId) → ¬ (v ≡ Null n)) → IsGround (take i row)
-    → IsGround (take (i + 1) row)
-ground_more row i v h e n g k m = elim (from_append (take i row) (rw (take_more row i v h) at m)) [ inl l ↦ g k l | inr r ↦ last r ]
-  where
-    last : Null k ∈ (get_or row i v ∷ []) → ⊥
-    last (here d) = n k (e ∙ d)
-    last (there j) = elim j [ ]
-
-pub not_ground : (row : List Value) (i : ℕ) (v : Value) (n : NullId) → i < length row → v ≡ get_or row i v → v ≡ Null n → ¬ (IsGround row)
-not_ground row i v n h e d g = g n (subst (λ (w : Value). w ∈ row) d (rw e (in_at row i v h)))
 
 -- what each table's rows have, the facts have
 pub facts_by_rows : (P : ℕ → List Value → Type 0) (I : List TableRows) (n : ℕ) → length I ≤ n → ((t : ℕ) → t < n → Each (rows_of I t) (P t))

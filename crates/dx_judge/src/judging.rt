@@ -91,7 +91,8 @@ fn judge_made(
 {
     let Made { instance, matches } = made;
     let sorted = given.sorted()?;
-    let _wide = sorted.tables();
+    // The call tells what holds of the tables of each instance.
+    prove!((sorted.tables() as u64) < 1 << 32);
     let matches = matches.texts(alloc)?;
     if let Some(why) = reason(alloc, rules, &matches, target, &sorted)? {
         return Ok(Verdict::NotSolution(why));
@@ -121,7 +122,8 @@ where
         (record { rules = task.now.rules.now; schema = model_tables task.now.target.now; rows = facts task.now.rows.now; given = facts given.now; limit = task.now.limit })
         result }
 {
-    let _tables = task.target.tables();
+    // The call tells what holds of the tables of each schema.
+    prove!((task.target.tables() as u64) < 1 << 32);
     let made = canonical_plain(
         alloc,
         task.rules,

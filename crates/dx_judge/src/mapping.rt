@@ -58,7 +58,8 @@ fn blocks_move(alloc: Global, from: &Instance, into: &Turned<'_>) -> Result<bool
     requires turned { IsTurnedOne into.now }
     ensures { IfOk result (BlocksMove (facts from.now) (facts into.now.plain.now)) }
 {
-    let _wide = from.tables();
+    // The call tells what holds of the tables of each instance.
+    prove!((from.tables() as u64) < 1 << 32);
     let all = blocks(alloc, from)?;
     for block in &all {
         if !moves_into(alloc, block.facts.items(), into)? {

@@ -1,6 +1,8 @@
 // Whether facts move into an instance.
-ghost use Rattle.std.specs.Prelude.{◌↔◌, IfOk, IsTrue};
+ghost use Rattle.std.specs.Prelude.{◌≡◌, ◌↔◌, IfOk, IsTrue};
 ghost use Rattle.dx_base.specs.Members.{◌⊆◌, Each};
+ghost use Rattle.dx_model.specs.declared.values.NullId.{NullId as Id};
+ghost use Rattle.dx_model.specs.declared.values.Value.TheVariants.{Null};
 ghost use Rattle.dx_instance.specs.Stored.{facts, HasTableIn};
 ghost use Rattle.dx_judge.specs.Open.{CanMove, IsGround};
 ghost use Rattle.dx_judge.specs.Turning.{IsTurnedOne};
@@ -13,28 +15,28 @@ use dx_instance::Instance;
 use dx_model::{Fact, Value};
 use std::alloc::{AllocError, Global};
 
+// Whether the value is no null.
+fn is_no_null(value: &Value) -> bool
+    ensures { IsTrue result ↔ ((n : Id) → ¬ (value.now ≡ Null n)) }
+{
+    match value {
+        Value::Const(_) => true,
+        Value::Null(_) => false,
+    }
+}
+
 /// Whether no null stands in the row.
 pub(crate) fn is_ground(row: &[Value]) -> bool
     ensures { IsTrue result ↔ IsGround row.now }
 {
-    for value in row {
-        if let Value::Null(_) = value {
-            return false;
-        }
-    }
-    true
+    row.iter().all(|value| is_no_null(value))
 }
 
 // Whether no null stands in any of the facts.
 fn are_ground(from: &[Fact]) -> bool
     ensures { IsTrue result ↔ Each from.now (λ f. IsGround f.row) }
 {
-    for fact in from {
-        if !is_ground(fact.row.items()) {
-            return false;
-        }
-    }
-    true
+    from.iter().all(|fact| is_ground(fact.row.items()))
 }
 
 // Whether each of the facts is in the instance.
@@ -42,12 +44,7 @@ fn are_there(from: &[Fact], into: &Instance) -> bool
     requires { Each from.now (HasTableIn into.now) }
     ensures { IsTrue result ↔ (from.now ⊆ facts into.now) }
 {
-    for fact in from {
-        if !into.contains(fact.table, &fact.row) {
-            return false;
-        }
-    }
-    true
+    from.iter().all(|fact| into.contains(fact.table, &fact.row))
 }
 
 // Whether something moves these facts into the instance, by the solver.
@@ -60,7 +57,8 @@ fn is_solved(alloc: Global, from: &[Fact], into: &Turned<'_>) -> Result<bool, Al
     if nulls.len() > u32::MAX as usize {
         return Err(no_number_left(nulls.len() as u64));
     }
-    let _wide = into.plain.tables();
+    // The call tells what holds of the tables of each instance.
+    prove!((into.plain.tables() as u64) < 1 << 32);
     let numbers = into.instance.numbers();
     match atoms_of(alloc, from, &into.orders, &nulls, &numbers)? {
         None => Ok(false),

@@ -44,7 +44,7 @@ judge_solution-requires-clause-received c =
     let schema = model_tables c.args.target.now in
     let S = c.in_ok-sorted.sorted in
     let fits : IsInstance schema (facts S) =
-    facts_fit schema S (c.in_ok-sorted.ensures.widths_stay ∙ c.requires.given ∙ sym (model_widths c.args.target.now)) c.tables-wide.ensures.rows in
+    facts_fit schema S (c.in_ok-sorted.ensures.widths_stay ∙ c.requires.given ∙ sym (model_widths c.args.target.now)) c.tables.ensures.rows in
     let none = rw (c.in_default.is, c.in_ok-matches.ensures) at c.in_ok-why.ensures in
     received k.0 c.args.rules.now schema k.1 c.args.made.matches k.2 S 0 c.args.made.instance c.requires.made.facts_are.0
     (is_solution k.0 c.args.rules.now schema k.1 c.args.made.matches k.2 S 0 fits none)
@@ -62,7 +62,7 @@ returns c = λ convert I limit are.
     let schema = model_tables c.args.target.now in
     let S = c.in_ok-sorted.sorted in
     let fits : IsInstance schema (facts S) =
-    facts_fit schema S (c.in_ok-sorted.ensures.widths_stay ∙ c.requires.given ∙ sym (model_widths c.args.target.now)) c.tables-wide.ensures.rows in
+    facts_fit schema S (c.in_ok-sorted.ensures.widths_stay ∙ c.requires.given ∙ sym (model_widths c.args.target.now)) c.tables.ensures.rows in
     let none = rw (c.in_default.is, c.in_ok-matches.ensures) at c.in_ok-why.ensures in
     IfOk-weaker c.judge_solution.result (IsSolutionVerdict schema c.args.made.instance S)
     (IsVerdict convert (judged c.args.rules.now schema I c.args.given.now limit))

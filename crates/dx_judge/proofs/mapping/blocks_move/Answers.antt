@@ -13,7 +13,7 @@ loop-block-init c = λ b m. elim m [ ]
 
 pub moves_into-requires-clause-fit : goal.moves_into-requires-clause-fit
 moves_into-requires-clause-fit c =
-    rw c.items.ensures (blocks_fit c.args.from.now c.args.into.now.plain.now c.deref-block-items.result.now c.block-item.result c.requires.widths c.tables-wide.ensures.rows
+    rw c.items.ensures (blocks_fit c.args.from.now c.args.into.now.plain.now c.deref-block-items.result.now c.block-item.result c.requires.widths c.tables.ensures.rows
     (subst (λ (bs : List Block). AreBlocks (facts c.args.from.now) bs) (sym c.deref-block-items.ensures.value) c.in_ok-all.ensures)
     (item_in c.deref-block-items.result.now c.loop-block.block-index c.block-item.result c.loop-block-test.true c.block-item.is))
 
