@@ -19,7 +19,7 @@ ghost use Rattle.dx_script.specs.Rewritten.{rewritten_steps};
 ghost use Rattle.dx_scriptgen.specs.Steps.{HasInsertSteps, HasMatchStep, HasScript, inserts_by, keeps_by, parts_in};
 
 use crate::copies::copy_texts;
-use crate::inserts::{Matched, push_inserts};
+use crate::inserts::push_inserts;
 use crate::keeps::all_parts;
 use crate::matches::match_step;
 use dx_base::{Items, Text};
@@ -104,46 +104,41 @@ fn push_all_inserts(
     for number in 0..rules.len() {
         let rule = &rules[number];
         let variables = exported(alloc, rule)?;
-        let matched = Matched {
+        let number_of = number as u32;
+        push_inserts(
+            alloc,
+            steps,
+            target,
+            kept[number],
+            number_of,
             rule,
-            number: number as u32,
-            kept: kept[number],
-            variables: &variables,
-        };
-        push_inserts(alloc, steps, target, &matched)?;
+            &variables,
+        )?;
     }
     Ok(())
-}
-
-/// The schemas of a script: the source's and the target's.
-#[derive(Clone, Copy)]
-struct Schemas<'s, 't> {
-    source: &'s Schema,
-    target: &'t Schema,
 }
 
 /// The script of rules, with these parts for their keep steps.
 fn script_of<F: Fn(u32, &Items<Text>) -> Result<Text, AllocError>, M: Meaning>(
     alloc: Global,
     rules: &[Rule],
-    schemas: &Schemas<'_, '_>,
+    source: &Schema,
+    target: &Schema,
     host: &Host<F, M>,
     parts: Vec<Items<Unless>>,
 ) -> Result<Script, AllocError>
-    requires rules { Each rules.now
-        (HasScript (model_tables schemas.now.source.now) (model_tables schemas.now.target.now) (offered host.now)) }
+    requires rules { Each rules.now (HasScript (model_tables source.now) (model_tables target.now) (offered host.now)) }
     requires one { length parts.items ≡ length rules.now }
     requires few { length rules.now < 4294967296 }
     ensures { IfOk result (λ s. s.steps
-        ≡ script_with (table_names_of schemas.now.source.now) (table_names_of schemas.now.target.now) (offered host.now)
-        (parts_in parts.items) rules.now) }
+        ≡ script_with (table_names_of source.now) (table_names_of target.now) (offered host.now) (parts_in parts.items) rules.now) }
 {
     let mut steps = Items::new(alloc);
-    push_creates(alloc, &mut steps, schemas.target)?;
-    push_matches(alloc, &mut steps, rules, schemas.source, host)?;
+    push_creates(alloc, &mut steps, target)?;
+    push_matches(alloc, &mut steps, rules, source, host)?;
     let kept = with_parts(alloc, &parts)?;
     push_keeps(&mut steps, parts)?;
-    push_all_inserts(alloc, &mut steps, schemas.target, &kept, rules)?;
+    push_all_inserts(alloc, &mut steps, target, &kept, rules)?;
     Ok(Script { steps })
 }
 
@@ -183,7 +178,7 @@ pub fn plain_script<F: Fn(u32, &Items<Text>) -> Result<Text, AllocError>, M: Mea
     // Both calls tell that names tell the tables apart.
     let (_sources, _targets) = (source.tables(), target.tables());
     let parts = no_parts(alloc, rules.len())?;
-    script_of(alloc, rules, &Schemas { source, target }, host, parts)
+    script_of(alloc, rules, source, target, host, parts)
 }
 
 /// The rewritten script of rules: it makes the uncovered part of the canonical instance.
@@ -212,5 +207,5 @@ pub fn rewritten_script<F: Fn(u32, &Items<Text>) -> Result<Text, AllocError>, M:
     // Both calls tell that names tell the tables apart.
     let (_sources, _targets) = (source.tables(), target.tables());
     let parts = all_parts(alloc, rules)?;
-    script_of(alloc, rules, &Schemas { source, target }, host, parts)
+    script_of(alloc, rules, source, target, host, parts)
 }

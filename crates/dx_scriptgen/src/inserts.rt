@@ -51,34 +51,27 @@ fn outs_of(alloc: Global, variables: &[u32], cells: &[Cell]) -> Result<Items<Out
     Ok(outs)
 }
 
-/// The matches of a rule, which stand in its keep table or in its match table, with a column for each exported variable.
-#[derive(Clone, Copy)]
-pub(crate) struct Matched<'a> {
-    pub rule: &'a Rule,
-    pub number: u32,
-    pub kept: bool,
-    pub variables: &'a [u32],
-}
-
 /// Adds the insert steps of a rule.
 pub(crate) fn push_inserts(
     alloc: Global,
     steps: &mut Items<Step>,
     target: &Schema,
-    matched: &Matched<'_>,
+    kept: bool,
+    number: u32,
+    rule: &Rule,
+    variables: &[u32],
 ) -> Result<(), AllocError>
-    requires tables { Each matched.now.rule.now.conclusion (λ a. a.table < length (tables_of target.now)) }
-    requires variables { matched.now.variables.now ≡ exported_of matched.now.rule.now }
-    requires few { length matched.now.variables.now < 4294967296 }
-    ensures { OnOk result (steps.new
-        ≡ steps.old ++ inserts_of (table_names_of target.now) matched.now.kept matched.now.number matched.now.rule.now) }
+    requires tables { Each rule.now.conclusion (λ a. a.table < length (tables_of target.now)) }
+    requires variables { variables.now ≡ exported_of rule.now }
+    requires few { length variables.now < 4294967296 }
+    ensures { OnOk result (steps.new ≡ steps.old ++ inserts_of (table_names_of target.now) kept number rule.now) }
 {
-    for atom in matched.rule.conclusion.items() {
+    for atom in rule.conclusion.items() {
         steps.push(Step::InsertRows {
             table: target.name(atom.table).copy()?,
-            rule: matched.number,
-            kept: matched.kept,
-            cells: outs_of(alloc, matched.variables, atom.cells.items())?,
+            rule: number,
+            kept,
+            cells: outs_of(alloc, variables, atom.cells.items())?,
         })?;
     }
     Ok(())

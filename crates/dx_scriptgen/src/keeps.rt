@@ -46,29 +46,22 @@ fn tests_of(alloc: Global, cells: &[Cell], others: &[u32]) -> Result<Items<Test>
     Ok(tests)
 }
 
-/// Rules, and the cell maps between them.
-#[derive(Clone, Copy)]
-struct Covering<'r, 'c> {
-    rules: &'r [Rule],
-    covers: &'c Covers,
-}
-
 /// Adds the parts that rule number i leaves to rule number j.
 fn push_parts(
     alloc: Global,
     parts: &mut Items<Unless>,
-    covering: &Covering<'_, '_>,
+    rules: &[Rule],
+    covers: &Covers,
     i: u32,
     j: u32,
 ) -> Result<(), AllocError>
-    requires known { CoveringRules covering.now.rules.now covering.now.covers.now }
-    requires first { i < length covering.now.rules.now }
-    requires second { j < length covering.now.rules.now }
-    ensures { OnOk result (parts.new ≡ parts.old ++ map (unless_of covering.now.rules.now i j)
-        (used_maps (rule_at covering.now.rules.now i) (rule_at covering.now.rules.now j))) }
+    requires known { CoveringRules rules.now covers.now }
+    requires first { i < length rules.now }
+    requires second { j < length rules.now }
+    ensures { OnOk result (parts.new ≡ parts.old ++ map (unless_of rules.now i j) (used_maps (rule_at rules.now i) (rule_at rules.now j))) }
 {
-    let others = exported(alloc, &covering.rules[j as usize])?;
-    for map in covering.covers.maps(i, j) {
+    let others = exported(alloc, &rules[j as usize])?;
+    for map in covers.maps(i, j) {
         parts.push(Unless {
             rule: j,
             tests: tests_of(alloc, map.exported.items(), &others)?,
@@ -89,11 +82,10 @@ fn parts_of(
     requires few { length rules.now < 4294967296 }
     ensures { IfOk result (λ parts. parts ≡ unless_parts rules.now i) }
 {
-    let covering = Covering { rules, covers };
     let mut parts = Items::new(alloc);
     for j in 0..rules.len() {
         if covers.before(j as u32, i) {
-            push_parts(alloc, &mut parts, &covering, i, j as u32)?;
+            push_parts(alloc, &mut parts, rules, covers, i, j as u32)?;
         }
     }
     Ok(parts)

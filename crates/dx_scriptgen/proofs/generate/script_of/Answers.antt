@@ -18,7 +18,7 @@ push_all_inserts-requires-clause-rules g c = λ d m.
 
 pub returns : goal.returns
 returns g c =
-    whole_is (table_names_of c.args.schemas.now.source.now) (table_names_of c.args.schemas.now.target.now) (offered c.args.host.now) c.args.parts.items c.args.rules.now c.deref-2.result.now
+    whole_is (table_names_of c.args.source.now) (table_names_of c.args.target.now) (offered c.args.host.now) c.args.parts.items c.args.rules.now c.deref-2.result.now
     c.new-steps.result c.push_creates.new.steps c.push_matches.new.steps c.push_keeps.new.steps c.push_all_inserts.new.steps
     c.new-steps.ensures c.in_ok-push_creates.ensures c.in_ok-push_matches.ensures
     (c.deref-2.ensures.value ∙ (c.in_ok-kept.ensures ∙ ap (map has_parts) c.deref.ensures.value)) c.requires.one c.in_ok-push_keeps.ensures c.in_ok-push_all_inserts.ensures

@@ -5,4 +5,4 @@ use Rattle.dx_script.specs.Rewritten.{unless_of}
 use Rattle.dx_scriptgen.proofs.keeps.push_parts.Given as goal
 
 abbrev pub invariant-loop-map : goal.invariant-loop-map
-invariant-loop-map l = l.parts ≡ l.initial.parts ++ map (unless_of l.covering.rules.now l.i l.j) (take l.map-index (used_maps (rule_at l.covering.rules.now l.i) (rule_at l.covering.rules.now l.j)))
+invariant-loop-map l = l.parts ≡ l.initial.parts ++ map (unless_of l.rules l.i l.j) (take l.map-index (used_maps (rule_at l.rules l.i) (rule_at l.rules l.j)))
